@@ -1,0 +1,4 @@
+pub mod Table
+pub mod Text
+pub mod Parts
+pub mod Wide

@@ -1,0 +1,4 @@
+pub mod Regions
+pub mod Laws
+pub mod Earliest
+pub mod Refusals
