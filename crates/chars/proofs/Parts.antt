@@ -36,9 +36,9 @@ single-ended b e (suc k) h = absurd (omega arith)
 line-onto : (b : ℕ) (p : List ℕ) → (b ≡ 10 → ⊥) → Line p → Line (b ∷ p)
 line-onto b p n l = record { filled = omega arith; whole = at }
   where
-  at : (k : ℕ) → suc k < length (b ∷ p) → getD (b ∷ p) k 0 ≡ 10 → ⊥
-  at zero h e = n e
-  at (suc k) h e = l .whole k (le-of-suc-le-suc h) e
+    at : (k : ℕ) → suc k < length (b ∷ p) → getD (b ∷ p) k 0 ≡ 10 → ⊥
+    at zero h e = n e
+    at (suc k) h e = l .whole k (le-of-suc-le-suc h) e
 
 ended-onto : (b : ℕ) (p : List ℕ) → Line p → Ended p → Ended (b ∷ p)
 ended-onto b p l e zero h = absurd (let f = l .filled in omega arith)

@@ -75,14 +75,14 @@ O = Other
 
 abbrev table : List Sort
 table =
-  O ∷ O ∷ O ∷ O ∷ O ∷ O ∷ O ∷ O ∷ O ∷ S ∷ S ∷ S ∷ S ∷ S ∷ O ∷ O ∷
-  O ∷ O ∷ O ∷ O ∷ O ∷ O ∷ O ∷ O ∷ O ∷ O ∷ O ∷ O ∷ O ∷ O ∷ O ∷ O ∷
-  S ∷ O ∷ O ∷ O ∷ O ∷ O ∷ O ∷ O ∷ O ∷ O ∷ O ∷ O ∷ O ∷ O ∷ O ∷ O ∷
-  D ∷ D ∷ D ∷ D ∷ D ∷ D ∷ D ∷ D ∷ D ∷ D ∷ O ∷ O ∷ O ∷ O ∷ O ∷ O ∷
-  O ∷ L ∷ L ∷ L ∷ L ∷ L ∷ L ∷ L ∷ L ∷ L ∷ L ∷ L ∷ L ∷ L ∷ L ∷ L ∷
-  L ∷ L ∷ L ∷ L ∷ L ∷ L ∷ L ∷ L ∷ L ∷ L ∷ L ∷ O ∷ O ∷ O ∷ O ∷ L ∷
-  O ∷ L ∷ L ∷ L ∷ L ∷ L ∷ L ∷ L ∷ L ∷ L ∷ L ∷ L ∷ L ∷ L ∷ L ∷ L ∷
-  L ∷ L ∷ L ∷ L ∷ L ∷ L ∷ L ∷ L ∷ L ∷ L ∷ L ∷ O ∷ O ∷ O ∷ O ∷ O ∷ []
+    O ∷ O ∷ O ∷ O ∷ O ∷ O ∷ O ∷ O ∷ O ∷ S ∷ S ∷ S ∷ S ∷ S ∷ O ∷ O ∷
+    O ∷ O ∷ O ∷ O ∷ O ∷ O ∷ O ∷ O ∷ O ∷ O ∷ O ∷ O ∷ O ∷ O ∷ O ∷ O ∷
+    S ∷ O ∷ O ∷ O ∷ O ∷ O ∷ O ∷ O ∷ O ∷ O ∷ O ∷ O ∷ O ∷ O ∷ O ∷ O ∷
+    D ∷ D ∷ D ∷ D ∷ D ∷ D ∷ D ∷ D ∷ D ∷ D ∷ O ∷ O ∷ O ∷ O ∷ O ∷ O ∷
+    O ∷ L ∷ L ∷ L ∷ L ∷ L ∷ L ∷ L ∷ L ∷ L ∷ L ∷ L ∷ L ∷ L ∷ L ∷ L ∷
+    L ∷ L ∷ L ∷ L ∷ L ∷ L ∷ L ∷ L ∷ L ∷ L ∷ L ∷ O ∷ O ∷ O ∷ O ∷ L ∷
+    O ∷ L ∷ L ∷ L ∷ L ∷ L ∷ L ∷ L ∷ L ∷ L ∷ L ∷ L ∷ L ∷ L ∷ L ∷ L ∷
+    L ∷ L ∷ L ∷ L ∷ L ∷ L ∷ L ∷ L ∷ L ∷ L ∷ L ∷ O ∷ O ∷ O ∷ O ∷ O ∷ []
 
 -- the rule, computed at each entry of the table
 pub table-right : (b : ℕ) (d : Sort) → b < 128 → getD table b d ≡ sortOf b

@@ -41,15 +41,16 @@ text-tells l = (
 pub edge-tells : (l : List ℕ) (p : ℕ) → Decides (edge l p) (Boundary l p)
 edge-tells l p = (
   λ e.
-    let h = and-parts (leb p (length l)) (leb (length l) p || (ltb (getD l p 0) 128 || leb 192 (getD l p 0))) e in
-    (leb-true p (length l) (h .0),
-      λ lt high. ⊎-elim (λ k. absurd (omega (arith, leb-true (length l) p k)))
-        (λ k. ⊎-elim (λ j. absurd (omega (arith, ltb-true (getD l p 0) 128 j))) (λ j. leb-true 192 (getD l p 0) j) (or-cases (ltb (getD l p 0) 128) (leb 192 (getD l p 0)) k))
-        (or-cases (leb (length l) p) (ltb (getD l p 0) 128 || leb 192 (getD l p 0)) (h .1))),
+      let h = and-parts (leb p (length l)) (leb (length l) p || (ltb (getD l p 0) 128 || leb 192 (getD l p 0))) e in (
+        leb-true p (length l) (h .0),
+        λ lt high. ⊎-elim (λ k. absurd (omega (arith, leb-true (length l) p k)))
+            (λ k. ⊎-elim (λ j. absurd (omega (arith, ltb-true (getD l p 0) 128 j))) (λ j. leb-true 192 (getD l p 0) j) (or-cases (ltb (getD l p 0) 128) (leb 192 (getD l p 0)) k))
+            (or-cases (leb (length l) p) (ltb (getD l p 0) 128 || leb 192 (getD l p 0)) (h .1)),
+      ),
   λ b. and-from (leb p (length l)) (leb (length l) p || (ltb (getD l p 0) 128 || leb 192 (getD l p 0))) (le-leb p (length l) (b .0))
-    (⊎-elim
+      (⊎-elim
       (λ lt. or-right (leb (length l) p) _
-        (⊎-elim (λ low. or-left (ltb (getD l p 0) 128) _ (lt-ltb (getD l p 0) 128 low)) (λ high. or-right (ltb (getD l p 0) 128) _ (le-leb 192 (getD l p 0) (b .1 lt high))) (cases-lt (getD l p 0) 128)))
+      (⊎-elim (λ low. or-left (ltb (getD l p 0) 128) _ (lt-ltb (getD l p 0) 128 low)) (λ high. or-right (ltb (getD l p 0) 128) _ (le-leb 192 (getD l p 0) (b .1 lt high))) (cases-lt (getD l p 0) 128)))
       (λ le. or-left (leb (length l) p) _ (le-leb (length l) p le))
       (cases-lt p (length l))),
 )

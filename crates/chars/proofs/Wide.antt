@@ -137,19 +137,19 @@ module _ (L : List ℕ → Type 0) where
   begun3 c a b s cs l =
       let x : ℕ = 224 + c / 4096 in
       let at : (lo hi : ℕ) → leadOf x ≡ owes 1 lo hi → lo ≤ next (c / 64) → next (c / 64) ≤ hi → Begun L (encode c ++ cs) =
-        λ lo hi e h i. subst (λ e. Begun L (e ++ cs)) (sym (three c a b)) (omega arith, subst (λ o. Following L o (next (c / 64) ∷ next c ∷ cs)) (sym e) (h, i, (omega arith, omega arith, l))) in
+      λ lo hi e h i. subst (λ e. Begun L (e ++ cs)) (sym (three c a b)) (omega arith, subst (λ o. Following L o (next (c / 64) ∷ next c ∷ cs)) (sym e) (h, i, (omega arith, omega arith, l))) in
       ⊎-elim (λ (e : x ≡ 224). at 160 191 (ap leadOf e) (omega arith) (omega arith))
       (λ n. ⊎-elim (λ (e : x ≡ 237). at 128 159 (ap leadOf e) (omega arith) (⊎-elim (λ u. omega arith) (λ u. absurd (omega arith)) s))
-        (λ m. at 128 191 (lead3 x (omega arith) (omega arith) n m) (omega arith) (omega arith)) (cases-eq x 237)) (cases-eq x 224)
+      (λ m. at 128 191 (lead3 x (omega arith) (omega arith) n m) (omega arith) (omega arith)) (cases-eq x 237)) (cases-eq x 224)
 
   begun4 : (c : ℕ) → 65536 ≤ c → c < 1114112 → (cs : List ℕ) → L cs → Begun L (encode c ++ cs)
   begun4 c a b cs l =
       let x : ℕ = 240 + c / 262144 in
       let at : (lo hi : ℕ) → leadOf x ≡ owes 2 lo hi → lo ≤ next (c / 4096) → next (c / 4096) ≤ hi → Begun L (encode c ++ cs) =
-        λ lo hi e h i. subst (λ e. Begun L (e ++ cs)) (sym (four c a)) (omega arith, subst (λ o. Following L o (next (c / 4096) ∷ next (c / 64) ∷ next c ∷ cs)) (sym e) (h, i, (omega arith, omega arith, (omega arith, omega arith, l)))) in
+      λ lo hi e h i. subst (λ e. Begun L (e ++ cs)) (sym (four c a)) (omega arith, subst (λ o. Following L o (next (c / 4096) ∷ next (c / 64) ∷ next c ∷ cs)) (sym e) (h, i, (omega arith, omega arith, (omega arith, omega arith, l)))) in
       ⊎-elim (λ (e : x ≡ 240). at 144 191 (ap leadOf e) (omega arith) (omega arith))
       (λ n. ⊎-elim (λ (e : x ≡ 244). at 128 143 (ap leadOf e) (omega arith) (omega arith))
-        (λ m. at 128 191 (lead4 x (omega arith) (omega arith)) (omega arith) (omega arith)) (cases-eq x 244)) (cases-eq x 240)
+      (λ m. at 128 191 (lead4 x (omega arith) (omega arith)) (omega arith) (omega arith)) (cases-eq x 244)) (cases-eq x 240)
 
   -- a character above 127 is a first byte and what it owes
   pub begun : (c : ℕ) → 128 ≤ c → scalar c ≡ true → (cs : List ℕ) → L cs → Begun L (encode c ++ cs)
@@ -165,10 +165,10 @@ InOrder (Some o) = o .low ≤ o .high
 
 pub in-order : (x : ℕ) → InOrder (leadOf x)
 in-order x =
-      cond-both (between 194 223 x) _ _ InOrder (λ _. omega arith)
-      (λ _. cond-both (eqb x 224) _ _ InOrder (λ _. omega arith)
-      (λ _. cond-both (eqb x 237) _ _ InOrder (λ _. omega arith)
-      (λ _. cond-both (between 225 239 x) _ _ InOrder (λ _. omega arith)
-      (λ _. cond-both (eqb x 240) _ _ InOrder (λ _. omega arith)
-      (λ _. cond-both (between 241 243 x) _ _ InOrder (λ _. omega arith)
-      (λ _. cond-both (eqb x 244) _ _ InOrder (λ _. omega arith) (λ _. tt)))))))
+    cond-both (between 194 223 x) _ _ InOrder (λ _. omega arith)
+    (λ _. cond-both (eqb x 224) _ _ InOrder (λ _. omega arith)
+    (λ _. cond-both (eqb x 237) _ _ InOrder (λ _. omega arith)
+    (λ _. cond-both (between 225 239 x) _ _ InOrder (λ _. omega arith)
+    (λ _. cond-both (eqb x 240) _ _ InOrder (λ _. omega arith)
+    (λ _. cond-both (between 241 243 x) _ _ InOrder (λ _. omega arith)
+    (λ _. cond-both (eqb x 244) _ _ InOrder (λ _. omega arith) (λ _. tt)))))))

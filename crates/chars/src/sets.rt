@@ -28,7 +28,7 @@ const SORTS: [Sort; 128] = [
 ];
 
 // What the table says of a byte.
-pub fn sort_of(b: u8) -> Sort
+fn sort_of(b: u8) -> Sort
     ensures { λ r. ⌜ r ≡ sortOf b ⌝ }
 {
     if b < 128 { SORTS[b as usize] } else { Sort::Other }

@@ -34,7 +34,10 @@ stop-or f n p (Some s) r e more h = record { at = p; low = omega arith; high = o
 stop-or f n p None r e more h =
     let s = more h in
     record {
-      at = s .at; low = omega arith; high = omega arith; here = s .here;
+      at = s .at;
+      low = omega arith;
+      high = omega arith;
+      here = s .here;
       before = λ j a b. ⊎-elim (λ (same : j ≡ p). ap f same ∙ e) (λ apart. s .before j (omega arith) b) (cases-eq j p);
     }
 
@@ -88,7 +91,7 @@ module _ (refusal : List ℕ → Option ℕ) (at : List ℕ → List ℕ → ℕ
   case-of e l p None eo true eb = let h = and-parts (text l) (edge l p) eb in inside eo (text-tells l .0 (h .0)) (edge-tells l p .0 (h .1))
   case-of e l p None eo false eb =
       outside eo (λ u. let t : (text l && edge l p) ≡ true = and-from (text l) (edge l p) (text-tells l .1 (u .0)) (edge-tells l p .1 (u .1)) in
-        let z : _≡_ {A = ℕ} 0 1 = cc in omega arith)
+      let z : _≡_ {A = ℕ} 0 1 = cc in omega arith)
 
   case : (e l : List ℕ) (p : ℕ) → Case refusal e l p
   case e l p = case-of e l p (refusal e) refl (text l && edge l p) refl
@@ -101,9 +104,9 @@ module _ (refusal : List ℕ → Option ℕ) (at : List ℕ → List ℕ → ℕ
   at-outside e l p h out =
       ap (λ o. unlessRefused o (cond (text l && edge l p) (answer (earliestFrom l (at e l) p)) Nothing)) h
       ∙ ⊎-elim
-        (λ t. absurd (let b = and-parts (text l) (edge l p) t in out (text-tells l .0 (b .0), edge-tells l p .0 (b .1))))
-        (λ f. cond-false (text l && edge l p) (answer (earliestFrom l (at e l) p)) Nothing f)
-        (cases-bool (text l && edge l p))
+      (λ t. absurd (let b = and-parts (text l) (edge l p) t in out (text-tells l .0 (b .0), edge-tells l p .0 (b .1))))
+      (λ f. cond-false (text l && edge l p) (answer (earliestFrom l (at e l) p)) Nothing f)
+      (cases-bool (text l && edge l p))
 
   pub at-inside : (e l : List ℕ) (p : ℕ) → refusal e ≡ None → Utf8 l → Boundary l p → earliest refusal at e l p ≡ answer (earliestFrom l (at e l) p)
   at-inside e l p h u b =
@@ -159,7 +162,11 @@ module _ (refusal : List ℕ → Option ℕ) (at : List ℕ → List ℕ → ℕ
       let st = k .stopped in
       let y = edged e l (st .at) r (edge l (st .at)) refl (st .here) in
       record {
-        fine = k .fine; begin = st .at; edge = y .0; after = st .low; here = y .1;
+        fine = k .fine;
+        begin = st .at;
+        edge = y .0;
+        after = st .low;
+        here = y .1;
         before = λ q low high b. unedged e l q b (st .before q low high);
       }
 
@@ -193,19 +200,19 @@ module _ (refusal : List ℕ → Option ℕ) (at : List ℕ → List ℕ → ℕ
     earliest-lawful = record {
       inside = λ e l p r h. let k = hit e l p r h in (k .utf8, k .from);
       proper = λ e l p r h.
-        let k = hit e l p r h in
-        let pl = placed-at e l p r k in
-        record { whole = span (k .stopped .at) (pl .end); present = pl .whole; after = k .stopped .low; within = pl .within };
+          let k = hit e l p r h in
+          let pl = placed-at e l p r k in
+          record { whole = span (k .stopped .at) (pl .end); present = pl .whole; after = k .stopped .low; within = pl .within };
       again = λ e l p q r s h g0 low high b.
-        let k = hit e l p r h in
-        let pl = placed-at e l p r k in
-        let sb = same-begin l (k .stopped .at) r s pl g0 in
-        let st = k .stopped in
-        at-inside e l q (k .fine) (k .utf8) b
-        ∙ ap answer (stops (atEdges l (at e l)) (suc (length l) - q) q (st .at) r (omega arith) (omega (arith, st .high, b .0, k .from .0)) (st .here) (λ j c d. st .before j (omega arith) d));
+          let k = hit e l p r h in
+          let pl = placed-at e l p r k in
+          let sb = same-begin l (k .stopped .at) r s pl g0 in
+          let st = k .stopped in
+          at-inside e l q (k .fine) (k .utf8) b
+          ∙ ap answer (stops (atEdges l (at e l)) (suc (length l) - q) q (st .at) r (omega arith) (omega (arith, st .high, b .0, k .from .0)) (st .here) (λ j c d. st .before j (omega arith) d));
       never = λ e l p q u b h low c.
-        let k = nothing-case e l p u b h (case e l p) in
-        at-inside e l q (k .0) u c
-        ∙ ap answer (nones (atEdges l (at e l)) (suc (length l) - q) q (λ j x y. none (atEdges l (at e l)) (suc (length l) - p) p (k .1) j (omega arith) (omega (arith, b .0, c .0))));
+          let k = nothing-case e l p u b h (case e l p) in
+          at-inside e l q (k .0) u c
+          ∙ ap answer (nones (atEdges l (at e l)) (suc (length l) - q) q (λ j x y. none (atEdges l (at e l)) (suc (length l) - p) p (k .1) j (omega arith) (omega (arith, b .0, c .0))));
       refuses = λ e l p k h m q. at-refused e m q k (refused-case e l p k h (case e l p));
     }

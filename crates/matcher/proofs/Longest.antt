@@ -28,45 +28,45 @@ Next next done R s (b ∷ bs) = From R (next s b) bs
 
 -- R s is what may follow in the state s, and G holds of the states that are reached
 module _ (S : Type 0) (next : S → ℕ → Option S) (done : S → Bool) (R : S → List ℕ → Type 0) (G : S → Type 0)
-  (alive : (s : S) → G s → (t : List ℕ) × R s t)
-  (keeps : (s : S) → G s → (b : ℕ) → Kept G (next s b))
-  (unfolds : (s : S) (bs : List ℕ) → R s bs → Next next done R s bs)
-  (folds : (s : S) (bs : List ℕ) → Next next done R s bs → R s bs)
+    (alive : (s : S) → G s → (t : List ℕ) × R s t)
+    (keeps : (s : S) → G s → (b : ℕ) → Kept G (next s b))
+    (unfolds : (s : S) (bs : List ℕ) → R s bs → Next next done R s bs)
+    (folds : (s : S) (bs : List ℕ) → Next next done R s bs → R s bs)
   where
-  stop : (s : S) → G s → (b : ℕ) (bs : List ℕ) → ((cs : List ℕ) → R s (b ∷ cs) → ⊥) → Longest (R s) (b ∷ bs) 0
-  stop s g b bs dead = record { within = omega arith; illegal = dead bs; shared = alive s g; longest = go }
-    where
-    go : (m : ℕ) → 0 < m → m ≤ length (b ∷ bs) → (t : List ℕ) → R s (take m (b ∷ bs) ++ t) → ⊥
-    go zero h le t r = omega arith
-    go (suc m) h le t r = dead (take m bs ++ t) r
+    stop : (s : S) → G s → (b : ℕ) (bs : List ℕ) → ((cs : List ℕ) → R s (b ∷ cs) → ⊥) → Longest (R s) (b ∷ bs) 0
+    stop s g b bs dead = record { within = omega arith; illegal = dead bs; shared = alive s g; longest = go }
+      where
+        go : (m : ℕ) → 0 < m → m ≤ length (b ∷ bs) → (t : List ℕ) → R s (take m (b ∷ bs) ++ t) → ⊥
+        go zero h le t r = omega arith
+        go (suc m) h le t r = dead (take m bs ++ t) r
 
-  on : (s s′ : S) (b : ℕ) (bs : List ℕ) → ((cs : List ℕ) → R s (b ∷ cs) → R s′ cs) → ((cs : List ℕ) → R s′ cs → R s (b ∷ cs)) → (o : Option ℕ) → Judged (R s′) bs o → Judged (R s) (b ∷ bs) (oneOn o)
-  on s s′ b bs to back None j = back bs j
-  on s s′ b bs to back (Some n) j = subst (Longest (R s) (b ∷ bs)) (sym (add-one n)) (record {
-    within = let h = j .within in omega arith;
-    illegal = λ r. j .illegal (to bs r);
-    shared = (j .shared .0, back (take n bs ++ j .shared .0) (j .shared .1));
-    longest = go;
-  })
-    where
-    go : (m : ℕ) → suc n < m → m ≤ length (b ∷ bs) → (t : List ℕ) → R s (take m (b ∷ bs) ++ t) → ⊥
-    go zero h le t r = omega arith
-    go (suc m) h le t r = j .longest m (le-of-suc-le-suc h) (le-of-suc-le-suc le) t (to (take m bs ++ t) r)
+    on : (s s′ : S) (b : ℕ) (bs : List ℕ) → ((cs : List ℕ) → R s (b ∷ cs) → R s′ cs) → ((cs : List ℕ) → R s′ cs → R s (b ∷ cs)) → (o : Option ℕ) → Judged (R s′) bs o → Judged (R s) (b ∷ bs) (oneOn o)
+    on s s′ b bs to back None j = back bs j
+    on s s′ b bs to back (Some n) j = subst (Longest (R s) (b ∷ bs)) (sym (add-one n)) (record {
+      within = let h = j .within in omega arith;
+      illegal = λ r. j .illegal (to bs r);
+      shared = (j .shared .0, back (take n bs ++ j .shared .0) (j .shared .1));
+      longest = go;
+    })
+      where
+        go : (m : ℕ) → suc n < m → m ≤ length (b ∷ bs) → (t : List ℕ) → R s (take m (b ∷ bs) ++ t) → ⊥
+        go zero h le t r = omega arith
+        go (suc m) h le t r = j .longest m (le-of-suc-le-suc h) (le-of-suc-le-suc le) t (to (take m bs ++ t) r)
 
-  at-end : (s : S) → G s → (t : Bool) → done s ≡ t → Judged (R s) [] (cond t None (Some 0))
-  at-end s g true e = folds s [] e
-  at-end s g false e = record {
-    within = omega arith;
-    illegal = λ r. both-ways (done s) e (unfolds s [] r);
-    shared = alive s g;
-    longest = λ m h le t r. omega arith;
-  }
+    at-end : (s : S) → G s → (t : Bool) → done s ≡ t → Judged (R s) [] (cond t None (Some 0))
+    at-end s g true e = folds s [] e
+    at-end s g false e = record {
+      within = omega arith;
+      illegal = λ r. both-ways (done s) e (unfolds s [] r);
+      shared = alive s g;
+      longest = λ m h le t r. omega arith;
+    }
 
-  at-byte : (s : S) → G s → (b : ℕ) (bs : List ℕ) (o : Option S) → Kept G o → ((cs : List ℕ) → R s (b ∷ cs) → From R o cs) → ((cs : List ℕ) → From R o cs → R s (b ∷ cs))
-    → ((s′ : S) → G s′ → Judged (R s′) bs (refuses next done s′ bs)) → Judged (R s) (b ∷ bs) (readOn o (λ s′. refuses next done s′ bs))
-  at-byte s g b bs None kept to back rest = stop s g b bs to
-  at-byte s g b bs (Some s′) kept to back rest = on s s′ b bs to back (refuses next done s′ bs) (rest s′ kept)
+    at-byte : (s : S) → G s → (b : ℕ) (bs : List ℕ) (o : Option S) → Kept G o → ((cs : List ℕ) → R s (b ∷ cs) → From R o cs) → ((cs : List ℕ) → From R o cs → R s (b ∷ cs))
+        → ((s′ : S) → G s′ → Judged (R s′) bs (refuses next done s′ bs)) → Judged (R s) (b ∷ bs) (readOn o (λ s′. refuses next done s′ bs))
+    at-byte s g b bs None kept to back rest = stop s g b bs to
+    at-byte s g b bs (Some s′) kept to back rest = on s s′ b bs to back (refuses next done s′ bs) (rest s′ kept)
 
-  pub judged : (s : S) → G s → (bs : List ℕ) → Judged (R s) bs (refuses next done s bs)
-  judged s g [] = at-end s g (done s) refl
-  judged s g (b ∷ bs) = at-byte s g b bs (next s b) (keeps s g b) (λ cs r. unfolds s (b ∷ cs) r) (λ cs r. folds s (b ∷ cs) r) (λ s′ g′. judged s′ g′ bs)
+    pub judged : (s : S) → G s → (bs : List ℕ) → Judged (R s) bs (refuses next done s bs)
+    judged s g [] = at-end s g (done s) refl
+    judged s g (b ∷ bs) = at-byte s g b bs (next s b) (keeps s g b) (λ cs r. unfolds s (b ∷ cs) r) (λ cs r. folds s (b ∷ cs) r) (λ s′ g′. judged s′ g′ bs)

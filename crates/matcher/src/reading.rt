@@ -31,5 +31,9 @@ pub fn refusal<R: Reader>(start: R, expression: &[u8]) -> Option<usize>
             None => return Some(i),
         }
     }
-    if state.may_end() { None } else { Some(expression.len()) }
+    if state.may_end() {
+        None
+    } else {
+        Some(expression.len())
+    }
 }

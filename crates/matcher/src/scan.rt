@@ -10,9 +10,9 @@ ghost use Rattle.std.specs.declared.option.Option.the-variants.{Some as Just, N
 ghost use Rattle.chars.specs.Edges.{edge};
 ghost use Rattle.matcher.specs.declared.answer.Region.{Region as Found};
 ghost use Rattle.matcher.specs.Earliest.{earliest, earliestFrom, atEdges, Placed};
-use chars::edges::is_edge;
 use crate::answer::Answer;
 use crate::answer::Region;
+use chars::edges::is_edge;
 
 pub trait Attempt {
     // The place at which an expression is refused, if it is.
@@ -33,7 +33,12 @@ pub trait Attempt {
 }
 
 // The attempt at a place, if that is an edge.
-fn attempt_here<T: Attempt>(attempts: &T, expression: &[u8], line: &str, place: usize) -> Option<Region>
+fn attempt_here<T: Attempt>(
+    attempts: &T,
+    expression: &[u8],
+    line: &str,
+    place: usize,
+) -> Option<Region>
     requires { ⌜ refusal (now attempts) (now expression) ≡ Neither ⌝ }
     ensures { λ r. ⌜ r ≡ atEdges (now (line .entry)) (at (now (attempts .entry)) (now (expression .entry)) (now (line .entry))) place ⌝ }
 {
@@ -45,7 +50,12 @@ fn attempt_here<T: Attempt>(attempts: &T, expression: &[u8], line: &str, place: 
 }
 
 // The first match that begins at the place, an edge, or after it.
-fn first_from<T: Attempt>(attempts: &T, expression: &[u8], line: &str, place: usize) -> Option<Region>
+fn first_from<T: Attempt>(
+    attempts: &T,
+    expression: &[u8],
+    line: &str,
+    place: usize,
+) -> Option<Region>
     requires { ⌜ refusal (now attempts) (now expression) ≡ Neither ⌝ }
     requires { ⌜ Boundary (now line) place ⌝ }
     ensures { λ r. ⌜ r ≡ earliestFrom (now (line .entry)) (at (now (attempts .entry)) (now (expression .entry)) (now (line .entry))) place ⌝ }

@@ -1,1 +1,5 @@
-
+pub mod Rests
+pub mod Spelling
+pub mod Walking
+pub mod Standing
+pub mod Telling

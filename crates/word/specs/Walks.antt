@@ -16,6 +16,10 @@ walking escaped reached = record { escaped = escaped; reached = reached }
 abbrev pub fresh : ℕ → Walk
 fresh p = walking false (Some p)
 
+-- b divides two words
+abbrev pub bar : Walk → ℕ → Bool
+bar w b = not (w .escaped) && eqb b 124
+
 abbrev pub letterAt : Option ℕ → ℕ → List ℕ → Option ℕ
 letterAt None b l = None
 letterAt (Some q) b l = cond (ltb q (length l) && sameLetter b (getD l q 0)) (Some (q + 1)) None
@@ -39,4 +43,4 @@ orEnd None o = o
 abbrev pub found : List ℕ → ℕ → Walk → List ℕ → Option ℕ
 found l p w [] = endOf (w .reached) l
 found l p w (b ∷ bs) =
-    cond (not (w .escaped) && eqb b 124) (orEnd (endOf (w .reached) l) (found l p (fresh p) bs)) (found l p (stepped w b l) bs)
+    cond (bar w b) (orEnd (endOf (w .reached) l) (found l p (fresh p) bs)) (found l p (stepped w b l) bs)

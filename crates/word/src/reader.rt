@@ -1,7 +1,7 @@
 // How far a word expression has been read.
 ghost use mathlib.Core.Path.{_≡_};
 ghost use Rattle.chars.specs.Leads.{leadOf};
-ghost use Rattle.word.specs.Reader.{next as nextOf, done as doneOf, begun as begunOf, inside as insideOf, empty};
+ghost use Rattle.word.specs.Reader.{next as nextOf, done as doneOf, begun as begunOf, inside as insideOf};
 use chars::leads::Owed;
 use chars::leads::lead_of;
 use chars::marks::is_bare;

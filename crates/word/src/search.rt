@@ -4,6 +4,10 @@ ghost use Rattle.matcher.specs.Earliest.{earliest};
 ghost use Rattle.word.specs.Reader.{refusal as refusalOf};
 ghost use Rattle.word.specs.Meaning.{wordAt, meaning};
 ghost use Rattle.word.specs.Found.{Told};
+use crate::reader::State;
+use crate::reader::WordReader;
+use crate::walk::first_word;
+use crate::walk::free_before;
 use matcher::answer::Answer;
 use matcher::answer::Region;
 use matcher::reading::refusal;
@@ -11,10 +15,6 @@ use matcher::scan::Attempt;
 use matcher::scan::scan;
 use matcher::scan::scan_text;
 use matcher::search::Matcher;
-use crate::reader::State;
-use crate::reader::WordReader;
-use crate::walk::first_word;
-use crate::walk::free_before;
 
 #[derive(Clone, Copy)]
 pub struct WordMatcher;

@@ -3,7 +3,7 @@ ghost use mathlib.Core.Path.{_≡_};
 ghost use Prim.Native.Nat.{_≤_};
 ghost use lib.ListN.{length};
 ghost use Rattle.word.specs.Meaning.{side, freeBefore, freeAfter};
-ghost use Rattle.word.specs.Walks.{fresh, letterAt, stepped, endOf, found};
+ghost use Rattle.word.specs.Walks.{fresh, bar, letterAt, stepped, endOf, found};
 use chars::sets::is_digit;
 use chars::sets::is_word;
 
@@ -58,7 +58,14 @@ impl Walk {
         }
     }
 
-    // The walk after one byte more of the expression, which divides no words.
+    // Whether the byte ends the word.
+    fn divides(self, b: u8) -> bool
+        ensures { λ r. ⌜ r ≡ bar self b ⌝ }
+    {
+        !self.escaped && b == b'|'
+    }
+
+    // The walk after one byte more of the word.
     fn step(self, b: u8, line: &[u8]) -> Walk
         ensures { λ r. ⌜ r ≡ stepped self b (now (line .entry)) ⌝ }
     {
@@ -69,7 +76,11 @@ impl Walk {
             };
         }
         let nowhere = self.escaped && is_digit(b);
-        let reached = if nowhere { None } else { letter(self.reached, b, line) };
+        let reached = if nowhere {
+            None
+        } else {
+            letter(self.reached, b, line)
+        };
         Walk {
             escaped: false,
             reached,
@@ -93,7 +104,7 @@ pub fn first_word(expression: &[u8], line: &[u8], place: usize) -> Option<usize>
 {
     let mut walk = Walk::begin(place);
     for b in expression {
-        if !walk.escaped && *b == b'|' {
+        if walk.divides(*b) {
             if let Some(end) = walk.end(line) {
                 return Some(end);
             }

@@ -17,7 +17,8 @@ returns c =
     let apart = eqb-false (length bytes) 0 (sym (c .if-is-empty .ensures tt)) in
     let filled : 0 < length bytes = omega arith in
     let front : take (c .line-end .result) bytes ≡ c .split-at .result .0 .now = sym (c .split-at .ensures .front) in
-    let back : drop (c .line-end .result) bytes ≡ c .split-at .result .1 .now = sym (c .split-at .ensures .back) in
-    (subst (λ (rest : List ℕ). First bytes (c .split-at .result .0 .now) rest) back
-       (subst (λ (line : List ℕ). First bytes line (drop (c .line-end .result) bytes)) front (c .line-end .ensures .first filled)),
-     cut bytes)
+    let back : drop (c .line-end .result) bytes ≡ c .split-at .result .1 .now = sym (c .split-at .ensures .back) in (
+      subst (λ (rest : List ℕ). First bytes (c .split-at .result .0 .now) rest) back
+          (subst (λ (line : List ℕ). First bytes line (drop (c .line-end .result) bytes)) front (c .line-end .ensures .first filled)),
+      cut bytes,
+    )

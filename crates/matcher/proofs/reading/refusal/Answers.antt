@@ -30,4 +30,4 @@ returns-else-may-end g c =
     let at-end : length (c .args .expression .now) ≡ c .loop-i .i + 0 = omega arith in
     ap Some at-end
     ∙ read-end (g .R·Reader .next) (g .R·Reader .done) (c .args .start) (c .args .expression .now) (c .loop-i .state) (c .loop-i .i) (c .loop-i .inv) (c .loop-i-test .left)
-      false (sym (c .if-may-end .left) ∙ c .may-end .ensures)
+    false (sym (c .if-may-end .left) ∙ c .may-end .ensures)

@@ -6,4 +6,4 @@ use Rattle.matcher.proofs.scan.scan.Needs as need
 pub returns-in-None : need.returns-in-None
 returns-in-None g c =
     sym (at-outside (g .T·Attempt .refusal (c .args .attempts .now)) (g .T·Attempt .at (c .args .attempts .now)) (c .args .expression .now) (c .args .line .now) (c .args .place)
-      (sym (c .refuses .ensures) ∙ c .in-None .is) (λ u. c .in-rest .ensures tt .cases .0 (u .0)))
+    (sym (c .refuses .ensures) ∙ c .in-None .is) (λ u. c .in-rest .ensures tt .cases .0 (u .0)))

@@ -11,11 +11,11 @@ returns-in-Some-first-from g c =
     let u : Utf8 (c .args .line .now) = search needs in
     let b : Boundary (c .args .line .now) (c .args .place) = search needs in
     sym (at-inside (g .T·Attempt .refusal (c .args .attempts .now)) (g .T·Attempt .at (c .args .attempts .now)) (c .args .expression .now) (c .args .line .now) (c .args .place) (sym (c .refuses .ensures) ∙ c .in-rest .is) u b
-      ∙ ap answer (sym (c .first-from .ensures) ∙ c .in-Some-first-from .is))
+    ∙ ap answer (sym (c .first-from .ensures) ∙ c .in-Some-first-from .is))
 
 pub returns-in-None : need.returns-in-None
 returns-in-None g c =
     let u : Utf8 (c .args .line .now) = search needs in
     let b : Boundary (c .args .line .now) (c .args .place) = search needs in
     sym (at-inside (g .T·Attempt .refusal (c .args .attempts .now)) (g .T·Attempt .at (c .args .attempts .now)) (c .args .expression .now) (c .args .line .now) (c .args .place) (sym (c .refuses .ensures) ∙ c .in-rest .is) u b
-      ∙ ap answer (sym (c .first-from .ensures) ∙ c .in-None .is))
+    ∙ ap answer (sym (c .first-from .ensures) ∙ c .in-None .is))
