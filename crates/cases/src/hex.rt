@@ -48,7 +48,7 @@ fn read_pairs(heap: Global, field: &[u8]) -> Result<Vec<u8>, Fault>
 }
 
 // The bytes that the field writes in hexadecimal, two digits a byte; `-` writes none.
-pub fn read_bytes(heap: Global, field: &[u8]) -> Result<Vec<u8>, Fault>
+pub(crate) fn read_bytes(heap: Global, field: &[u8]) -> Result<Vec<u8>, Fault>
     ensures { λ r. ⌜ Cases r (λ v. spelled (vec-items v) ≡ now (field .entry)) (λ x. Faulty x (now (field .entry))) ⌝ }
 {
     if field.is_empty() {

@@ -5,8 +5,8 @@
 // `end` says that none is left. specs/Fields, specs/Number and specs/Hex say what each reads, and what it refuses.
 pub mod fault;
 pub mod fields;
-pub mod hex;
-pub mod number;
+mod hex;
+mod number;
 
 pub use fault::Fault;
 pub use fields::Fields;

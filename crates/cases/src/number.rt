@@ -20,7 +20,7 @@ fn grown(value: u32, digit: u8) -> Result<u32, Fault>
 }
 
 // The number that the field writes in decimal digits, one or more. The first digit at fault is blamed.
-pub fn read_number(field: &[u8]) -> Result<u32, Fault>
+pub(crate) fn read_number(field: &[u8]) -> Result<u32, Fault>
     ensures value { λ r. ⌜ r ≡ numberOf (now (field .entry)) ⌝ }
     ensures law { λ r. ⌜ Cases r (λ n. Writes n (now (field .entry))) (λ x. Blamed x (now (field .entry))) ⌝ }
 {

@@ -4,7 +4,7 @@ ghost use lib.ListN.{replicate};
 ghost use Rattle.columns.specs.Columns.{picture as pictureOf, narrow, eastAsian, full, columns};
 
 // A control character would move the cursor, so its picture is shown, in one column.
-pub fn picture(c: char) -> char
+pub(crate) fn picture(c: char) -> char
     ensures { λ r. ⌜ r ≡ pictureOf c ⌝ }
 {
     match c {
@@ -39,7 +39,7 @@ fn is_full(c: char) -> bool
 }
 
 // As many spaces as a terminal gives columns to the character.
-pub fn spaces(c: char) -> &'static str
+pub(crate) fn spaces(c: char) -> &'static str
     ensures { λ r. ⌜ now r ≡ replicate (columns c) 32 ⌝ }
 {
     if is_narrow(c) {

@@ -1,3 +1,2 @@
-pub mod Earliest
 pub mod Longest
 pub mod Steps

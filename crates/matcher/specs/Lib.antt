@@ -1,4 +1,3 @@
 pub mod Regions
 pub mod Laws
-pub mod Earliest
 pub mod Refusals

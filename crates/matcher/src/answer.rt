@@ -10,7 +10,7 @@ pub struct Span {
 }
 
 // Where the groups of a match lie: group 0 is the match itself, and a group that took no part is absent.
-#[derive(Clone, Copy, Debug, PartialEq, Eq)]
+#[derive(Clone, Copy)]
 pub struct Region {
     pub groups: [Option<Span>; 16],
 }
@@ -36,7 +36,7 @@ impl Region {
     }
 }
 
-#[derive(Clone, Copy, Debug, PartialEq, Eq)]
+#[derive(Clone, Copy)]
 pub enum Answer {
     Nothing,
     Found(Region),

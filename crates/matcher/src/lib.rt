@@ -1,9 +1,7 @@
 // What a search answers, what every matcher promises, and what is written once for all matchers.
 //
 // `search` has the trait: a matcher means a whole function of expression, line and place, which obeys the laws of specs/Laws.
-// A matcher that tries one place at a time gives an `Attempt` (`scan`), and takes the search and its laws from there.
 // An expression is read a byte at a time (`reading`), so that its refusal falls where no legal expression goes on.
 pub mod answer;
 pub mod reading;
-pub mod scan;
 pub mod search;

@@ -17,9 +17,9 @@ use Rattle.matcher.specs.declared.answer.Answer.{Answer}
 use Rattle.matcher.specs.declared.answer.Answer.the-variants.{Nothing, Found, Refused}
 use Rattle.matcher.specs.Regions.{group, span, spanning}
 use Rattle.matcher.specs.Laws.{Within, Lawful}
-use Rattle.matcher.specs.Earliest.{Placed}
+use Rattle.scan.specs.Earliest.{Placed}
 use Rattle.matcher.specs.Refusals.{Longest, Judged}
-use Rattle.matcher.proofs.Earliest.{FoundAt, when-found, when-refused, when-nothing, nothing-at, earliest-lawful}
+use Rattle.scan.proofs.Earliest.{FoundAt, when-found, when-refused, when-nothing, nothing-at, earliest-lawful}
 use Rattle.word.specs.Grammar.{Word, Expression, signs, words, GoodSigns, GoodWords, Spells, Legal}
 use Rattle.word.specs.Reader.{refusal}
 use Rattle.word.specs.Meaning.{stands, freeBefore, freeAfter, counts, firstOf, wordAt, meaning}

@@ -11,7 +11,7 @@ use Rattle.chars.specs.Sets.{digit, word}
 use Rattle.matcher.specs.declared.answer.Region.{Region}
 use Rattle.matcher.specs.Regions.{spanning}
 use Rattle.matcher.specs.Laws.{Meaning}
-use Rattle.matcher.specs.Earliest.{earliest}
+use Rattle.scan.specs.Earliest.{earliest}
 use Rattle.word.specs.Reader.{refusal}
 
 -- the bytes of a word; none for a backslash and digit, which stands nowhere

@@ -1,6 +1,6 @@
 // The matcher: its meaning, its laws, and what a search says of the line.
 ghost use mathlib.Core.Path.{_≡_};
-ghost use Rattle.matcher.specs.Earliest.{earliest};
+ghost use Rattle.scan.specs.Earliest.{earliest};
 ghost use Rattle.word.specs.Reader.{refusal as refusalOf};
 ghost use Rattle.word.specs.Meaning.{wordAt, meaning};
 ghost use Rattle.word.specs.Found.{Told};
@@ -11,9 +11,9 @@ use crate::walk::free_before;
 use matcher::answer::Answer;
 use matcher::answer::Region;
 use matcher::reading::refusal;
-use matcher::scan::Attempt;
-use matcher::scan::scan;
-use matcher::scan::scan_text;
+use scan::attempt::Attempt;
+use scan::attempt::scan;
+use scan::attempt::scan_text;
 use matcher::search::Matcher;
 
 #[derive(Clone, Copy)]

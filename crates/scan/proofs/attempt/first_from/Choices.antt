@@ -1,8 +1,8 @@
 use mathlib.Core.Path.{_≡_}
 use Prim.Native.Nat.{_-_, _≤_}
 use lib.ListN.{length}
-use Rattle.matcher.specs.Earliest.{earliestFrom}
-use Rattle.matcher.proofs.scan.first_from.Given as given
+use Rattle.scan.specs.Earliest.{earliestFrom}
+use Rattle.scan.proofs.attempt.first_from.Given as given
 
 -- nothing was found before `at`
 abbrev pub Inv-loop-region : given.InvT-loop-region

@@ -1,6 +1,6 @@
 use mathlib.Core.Path.{_≡_, sym, _∙_}
-use Rattle.matcher.proofs.Earliest.{at-outside}
-use Rattle.matcher.proofs.scan.scan.Needs as need
+use Rattle.scan.proofs.Earliest.{at-outside}
+use Rattle.scan.proofs.attempt.scan.Needs as need
 
 -- the line is not UTF-8
 pub returns-in-None : need.returns-in-None

@@ -13,13 +13,13 @@ use Rattle.std.specs.declared.option.Option.{Option}
 use Rattle.std.specs.declared.option.Option.the-variants.{Some, None}
 use Rattle.chars.specs.Edges.{text, edge}
 use Rattle.chars.proofs.Text.{text-tells, edge-tells}
 use Rattle.matcher.specs.declared.answer.Span.{Span}
 use Rattle.matcher.specs.declared.answer.Region.{Region}
 use Rattle.matcher.specs.declared.answer.Answer.{Answer}
 use Rattle.matcher.specs.declared.answer.Answer.the-variants.{Nothing, Found, Refused}
 use Rattle.matcher.specs.Regions.{group, span}
 use Rattle.matcher.specs.Laws.{Meaning, Lawful, Proper, Within}
-use Rattle.matcher.specs.Earliest.{orElse, seek, atEdges, earliestFrom, answer, unlessRefused, earliest, Placed}
+use Rattle.scan.specs.Earliest.{orElse, seek, atEdges, earliestFrom, answer, unlessRefused, earliest, Placed}
 
 -- where a search that found r stopped
 pub record Stop (f : ℕ → Option Region) (n p : ℕ) (r : Region) : Type 0 where

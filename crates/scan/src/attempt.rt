@@ -8,10 +8,10 @@ ghost use Rattle.std.specs.Words.{Boundary};
 ghost use Rattle.std.specs.declared.option.Option.{Option as Maybe};
 ghost use Rattle.std.specs.declared.option.Option.the-variants.{Some as Just, None as Neither};
 ghost use Rattle.chars.specs.Edges.{edge};
 ghost use Rattle.matcher.specs.declared.answer.Region.{Region as Found};
-ghost use Rattle.matcher.specs.Earliest.{earliest, earliestFrom, atEdges, Placed};
-use crate::answer::Answer;
-use crate::answer::Region;
+ghost use Rattle.scan.specs.Earliest.{earliest, earliestFrom, atEdges, Placed};
+use matcher::answer::Answer;
+use matcher::answer::Region;
 use chars::edges::is_edge;
 
 pub trait Attempt {

@@ -1,7 +1,7 @@
 use mathlib.Core.Path.{sym, _∙_}
 use native.Mathlib.Omega.{arith}
-use Rattle.matcher.proofs.Steps.{seek-here, seek-on, seek-end}
-use Rattle.matcher.proofs.scan.first_from.Needs as need
+use Rattle.scan.proofs.Turns.{seek-here, seek-on, seek-end}
+use Rattle.scan.proofs.attempt.first_from.Needs as need
 
 pub returns-in-Some : need.returns-in-Some
 returns-in-Some g c =
