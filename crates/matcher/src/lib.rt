@@ -5,3 +5,5 @@
 pub mod answer;
 pub mod reading;
 pub mod search;
+
+pub use search::Matcher;

@@ -1,4 +1,4 @@
-// The search of a matcher that tries one place at a time: the first edge from the place on at which it matches.
+// A matcher that tries one place at a time, and what it finds: the first edge from the place on at which it matches.
 ghost use mathlib.Core.Path.{_≡_};
 ghost use mathlib.Core.Bool.{cond};
 ghost use mathlib.Core.List.{List};
@@ -10,9 +10,9 @@ ghost use Rattle.std.specs.declared.option.Option.the-variants.{Some as Just, N
 ghost use Rattle.chars.specs.Edges.{edge};
 ghost use Rattle.matcher.specs.declared.answer.Region.{Region as Found};
 ghost use Rattle.scan.specs.Earliest.{earliest, earliestFrom, atEdges, Placed};
+use chars::edges::is_edge;
 use matcher::answer::Answer;
 use matcher::answer::Region;
-use chars::edges::is_edge;
 
 pub trait Attempt {
     // The place at which an expression is refused, if it is.
@@ -72,7 +72,7 @@ fn first_from<T: Attempt>(
     }
 }
 
-// The search in a UTF-8 line.
+// What is found in a UTF-8 line.
 pub fn scan_text<T: Attempt>(attempts: &T, expression: &[u8], line: &str, place: usize) -> Answer
     ensures { λ r. ⌜ r ≡ earliest (refusal (now (attempts .entry))) (at (now (attempts .entry))) (now (expression .entry)) (now (line .entry)) place ⌝ }
 {
@@ -88,7 +88,7 @@ pub fn scan_text<T: Attempt>(attempts: &T, expression: &[u8], line: &str, place:
     }
 }
 
-// The search in any line.
+// What is found in any line.
 pub fn scan<T: Attempt>(attempts: &T, expression: &[u8], line: &[u8], place: usize) -> Answer
     ensures { λ r. ⌜ r ≡ earliest (refusal (now (attempts .entry))) (at (now (attempts .entry))) (now (expression .entry)) (now (line .entry)) place ⌝ }
 {

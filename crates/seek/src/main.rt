@@ -17,21 +17,22 @@ use crate::lines::seek_lines;
 use crate::trouble::Trouble;
 use crate::trouble::TroubleFromAlloc;
 use crate::trouble::TroubleFromIo;
-use matcher::answer::Answer;
-use matcher::search::Matcher;
+use matcher::Matcher;
+use matches::step::Step;
+use matches::step::next_match;
 use std::env;
 use std::io::BufWriter;
 use std::io::Read;
 use std::io::Write;
 use word::WordMatcher;
-use word::search::WordSearch;
+use word::WordSearch;
 
 const USAGE: &str = "usage: seek word EXPRESSION < SHEET\n";
 
 // The matches in standard input, unless the matcher refuses the expression. A refusal does not depend on the line.
 fn seek<M: Matcher>(rt: &LibcRuntime, matcher: &M, expression: &str) -> Result<(), Trouble> {
     let mut out = BufWriter::new(rt.stdout());
-    if let Answer::Refused(place) = matcher.search_text(expression.as_bytes(), "", 0) {
+    if let Step::Refused(place) = next_match(matcher, expression.as_bytes(), "", 0) {
         print_refusal(&mut out, rt.alloc(), expression, place)?;
         out.flush()?;
         return Err(Trouble::Refused);

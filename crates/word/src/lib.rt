@@ -7,3 +7,4 @@ pub mod search;
 mod walk;
 
 pub use search::WordMatcher;
+pub use search::WordSearch;

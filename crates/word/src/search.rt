@@ -11,10 +11,10 @@ use crate::walk::free_before;
 use matcher::answer::Answer;
 use matcher::answer::Region;
 use matcher::reading::refusal;
+use matcher::search::Matcher;
 use scan::attempt::Attempt;
 use scan::attempt::scan;
 use scan::attempt::scan_text;
-use matcher::search::Matcher;
 
 #[derive(Clone, Copy)]
 pub struct WordMatcher;

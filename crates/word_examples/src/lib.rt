@@ -44,7 +44,13 @@ mod tests {
         // marks, bare and with a backslash; a backslash and digit stands nowhere, other words still do
         (b"#&-~", b"#&-~", 0, 0, 4),
         (br"\#\&\-\~", b"#&-~", 0, 0, 4),
-        (br"\\\.\+\*\?\(\)\|\[\]\{\}\^\$", br"\.+*?()|[]{}^$", 0, 0, 14),
+        (
+            br"\\\.\+\*\?\(\)\|\[\]\{\}\^\$",
+            br"\.+*?()|[]{}^$",
+            0,
+            0,
+            14,
+        ),
         (br"a\1|b", b"a1 b", 0, 3, 4),
         // a longer character
         (b"\xe2\x82\xac", b"=\xe2\x82\xac", 1, 1, 4),
