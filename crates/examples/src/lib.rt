@@ -1,6 +1,7 @@
 // Examples of the rules of characters, lines and matches, run. Those of the word matcher stand in `word_examples`.
 //
 // The expected answers are worked out by hand from the rules in docs/RULES.md.
+#![tactic(auto)]
 #[cfg(test)]
 mod tests {
     use chars::edges::{is_edge, is_text, next_edge};

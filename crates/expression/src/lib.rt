@@ -9,6 +9,7 @@
 // not suffice it fills a table of which items match from which places, once for all begins, so that it costs at most as many steps
 // as the line times the expression has bytes. Expressions and lines may have any length; where there is no memory for the table
 // the search goes on without, and answers the same.
+#![tactic(auto)]
 mod attempts;
 mod groups;
 pub mod search;

@@ -1,6 +1,7 @@
 // Examples of the expression matcher, run.
 //
 // The expected answers are worked out by hand from the rules in docs/RULES.md.
+#![tactic(auto)]
 #[cfg(test)]
 mod tests {
     use expression::ExpressionMatcher;

@@ -13,6 +13,7 @@
 // specs/Grammar has the legal expressions by how they are written. `legality` says whether an expression is one of them and,
 // if not, how much of it some legal expression shares. `items` reads one item after the other from the bytes of a legal
 // expression, and `class` asks a class whether it takes a character. Nothing is allocated, and any length is read.
+#![tactic(auto)]
 mod bytes;
 pub mod class;
 pub mod examples;

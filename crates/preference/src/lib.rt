@@ -4,6 +4,7 @@
 // that there is none, or how much of the expression a legal one shares; specs/Brackets has where the groups of a match lie. The
 // functions here compute nothing: their contracts say that the meaning answers what is told, and nothing else, and that it obeys the
 // laws of a matcher.
+#![tactic(auto)]
 ghost use Rattle.std.specs.Prelude.{◌≡◌, ℕ, true, List};
 ghost use Rattle.matcher.specs.declared.answer.Answer.{Answer};
 ghost use Rattle.matcher.specs.Laws.{Lawful};

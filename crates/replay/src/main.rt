@@ -6,6 +6,7 @@
 // is answered `= nothing`. Before the answers of a case stands `case N`. A line that is empty or begins with `#` or with `= `, an
 // expected answer, is passed over. Of a record that is not answered here, or is not written as it should be, one line that
 // begins with `?` says which and why, and reading goes on.
+#![tactic(auto)]
 mod answers;
 mod mistake;
 mod records;

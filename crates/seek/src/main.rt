@@ -8,6 +8,7 @@
 // line says how many lines and matches there were. An expression that is refused is shown with a caret under the first byte with
 // which no expression goes on, and no input is read. After a refusal, and where the arguments are wrong or reading or writing
 // fails, the status is 1.
+#![tactic(auto)]
 mod caret;
 mod lines;
 mod trouble;

@@ -6,6 +6,7 @@
 // `Table::walk` then reads off the preferred match in one pass: each repeat takes one character more as long as the rest still
 // matches. One table serves all alternatives and all begins of matches in its line. Nothing recurses, so that expressions and
 // lines may have any length; the table takes as many bytes as there are cells, and `fill` says so where there is no memory.
+#![tactic(auto)]
 mod cell;
 pub mod fill;
 mod row;

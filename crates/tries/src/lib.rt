@@ -1,2 +1,3 @@
 // The match of one alternative by trying.
+#![tactic(auto)]
 pub mod run;

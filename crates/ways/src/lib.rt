@@ -6,5 +6,6 @@
 // them differ (proofs/Prefers). specs/Groups has where the groups of a match lie, and specs/Meaning what a search answers.
 //
 // `step` is one item at one place, and `start` where the alternatives begin.
+#![tactic(auto)]
 pub mod start;
 pub mod step;

@@ -4,13 +4,13 @@ use Rattle.chars.specs.Lines.{First}
 use Rattle.chars.proofs.Parts.{cut}
 use Rattle.chars.proofs.lines.next_line.Goals as goal
 
-pub returns-then-is-empty : goal.returns-then-is-empty
-returns-then-is-empty c = (eqb-true (length c.args.bytes.now) 0 (sym c.if-is-empty.ensures), cut c.args.bytes.now)
+pub returns-then-is_empty : goal.returns-then-is_empty
+returns-then-is_empty c = (eqb-true (length c.args.bytes.now) 0 (sym c.if-is_empty.ensures), cut c.args.bytes.now)
 
 pub returns : goal.returns
 returns c =
     let bytes = c.args.bytes.now in
-    let apart = eqb-false (length bytes) 0 (sym c.if-is-empty.ensures) in
+    let apart = eqb-false (length bytes) 0 (sym c.if-is_empty.ensures) in
     let filled : 0 < length bytes = omega arith in
     let front : take c.line-end.result bytes ≡ c.split-at.result.0.now = sym c.split-at.ensures.front in
     let back : drop c.line-end.result bytes ≡ c.split-at.result.1.now = sym c.split-at.ensures.back in (
