@@ -4,6 +4,7 @@
 // next as it stands, `number` a decimal number up to 4,294,967,295, `bytes` bytes in lower-case hexadecimal, `-` for none, and
 // `end` says that none is left. specs/Fields, specs/Number and specs/Hex say what each reads, and what it refuses.
 #![tactic(auto)]
+
 pub mod fault;
 pub mod fields;
 mod hex;

@@ -4,6 +4,7 @@
 // `edges` whether bytes are UTF-8 and where a character begins, `leads` what a first byte of UTF-8 asks of the next ones,
 // and `lines` cuts a sheet into its lines.
 #![tactic(auto)]
+
 pub mod edges;
 pub mod leads;
 pub mod lines;

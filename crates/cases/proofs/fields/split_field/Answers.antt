@@ -10,11 +10,11 @@ returns-in-Some c =
     let at = c.in-Some.at in
     let space = c.in-Some.ensures in
     let one : suc at ≡ at + 1 = omega arith in
-    let rest : drop (suc at) bytes ≡ c.split-at-in-Some.result.1.now =
-    ap (λ n. drop n bytes) one ∙ sym (drop-drop 1 at bytes) ∙ ap (drop 1) (sym c.split-at.ensures.back) ∙ sym c.split-at-in-Some.ensures.back in
+    let rest : drop (suc at) bytes ≡ c.split_at-in-Some.result.1.now =
+    ap (λ n. drop n bytes) one ∙ sym (drop-drop 1 at bytes) ∙ ap (drop 1) (sym c.split_at.ensures.back) ∙ sym c.split_at-in-Some.ensures.back in
     field_at bytes at space.2 space.0 space.1
-    ∙ ap (λ f. f ∷ fields_of (drop (suc at) bytes)) (sym c.split-at.ensures.front)
-    ∙ ap (λ r. c.split-at.result.0.now ∷ fields_of r) rest
+    ∙ ap (λ f. f ∷ fields_of (drop (suc at) bytes)) (sym c.split_at.ensures.front)
+    ∙ ap (λ r. c.split_at.result.0.now ∷ fields_of r) rest
 
 pub returns-in-None : goal.returns-in-None
 returns-in-None c = field_last c.args.bytes.now c.in-None.ensures

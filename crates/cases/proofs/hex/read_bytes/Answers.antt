@@ -5,9 +5,9 @@ use Rattle.cases.proofs.Pairs.{hyphen, not_hyphen, not_one, illegible_empty, ill
 use Rattle.cases.proofs.hex.read_bytes.Goals as goal
 use Rattle.cases.proofs.hex.read_bytes.Goals.{else-field-eq1-via-then-field-eq1+else-field-eq45, else-field-eq1-via-else-field-eq1}
 
-pub returns-then-is-empty : goal.returns-then-is-empty
-returns-then-is-empty c =
-    let none = eqb-true (length c.args.field.now) 0 (sym c.if-is-empty.ensures) in
+pub returns-then-is_empty : goal.returns-then-is_empty
+returns-then-is_empty c =
+    let none = eqb-true (length c.args.field.now) 0 (sym c.if-is_empty.ensures) in
     (none, illegible_empty c.args.field.now none)
 
 pub returns-then-field-eq45 : goal.returns-then-field-eq45

@@ -7,5 +7,5 @@ use Rattle.chars.proofs.edges.is_text.Goals as goal
 pub returns : goal.returns
 returns c =
     let bytes = c.args.bytes.now in
-    let d : Decides c.is_ok.result (IsUtf8 bytes) = Decides-at c.is-ok.result _ c.is-ok.ensures.value (ok_decides _ _ c.from-utf8.result c.from-utf8.ensures.cases) in
+    let d : Decides c.is_ok.result (IsUtf8 bytes) = Decides-at c.is_ok.result _ c.is_ok.ensures.value (ok_decides _ _ c.from_utf8.result c.from_utf8.ensures.cases) in
     record { value = same_from_decides c.is_ok.result (text bytes) d (text_tells bytes); decides = d }

@@ -12,9 +12,9 @@ returns c =
     let bytes = c.args.bytes.now in
     let apart = eqb-false (length bytes) 0 (sym c.if-is_empty.ensures) in
     let filled : 0 < length bytes = omega arith in
-    let front : take c.line-end.result bytes ≡ c.split-at.result.0.now = sym c.split-at.ensures.front in
-    let back : drop c.line-end.result bytes ≡ c.split-at.result.1.now = sym c.split-at.ensures.back in (
-      subst (λ (rest : List ℕ). First bytes c.split-at.result.0.now rest) back
-          (subst (λ (line : List ℕ). First bytes line (drop c.line-end.result bytes)) front (c.line-end.ensures.first filled)),
+    let front : take c.line_end.result bytes ≡ c.split_at.result.0.now = sym c.split_at.ensures.front in
+    let back : drop c.line_end.result bytes ≡ c.split_at.result.1.now = sym c.split_at.ensures.back in (
+      subst (λ (rest : List ℕ). First bytes c.split_at.result.0.now rest) back
+          (subst (λ (line : List ℕ). First bytes line (drop c.line_end.result bytes)) front (c.line_end.ensures.first filled)),
       cut bytes,
     )

@@ -7,4 +7,4 @@ use Rattle.expression.proofs.search.search_bytes.Goals as goal
 -- the line is not UTF-8
 pub returns-in-None : goal.returns-in-None
 returns-in-None c =
-    sym (at_outside refusal at c.args.expression.now c.args.line.now c.args.place (sym c.refusal.ensures.read ∙ c.in-None.is) (λ u. c.in-default.ensures.cases.0 u.0))
+    sym (at_outside refusal at c.args.expression.now c.args.line.now c.args.place (sym c.refusal.ensures.read ∙ c.in-None.is) (λ u. c.in_default.ensures.cases.0 u.0))

@@ -7,4 +7,4 @@ use Rattle.expression.proofs.search.search_line.Goals as goal
 pub returns : goal.returns
 returns c =
     let u : IsUtf8 c.args.line.now = search rules in
-    c.find.ensures ∙ sym (at_inside refusal at c.args.expression.now c.args.line.now c.args.place (sym c.refusal.ensures.read ∙ c.in-default.is) u (c.is-edge.ensures.decides.0 c.if-not-is-edge.false))
+    c.find.ensures ∙ sym (at_inside refusal at c.args.expression.now c.args.line.now c.args.place (sym c.refusal.ensures.read ∙ c.in_default.is) u (c.is_edge.ensures.decides.0 c.if-not-is_edge.false))

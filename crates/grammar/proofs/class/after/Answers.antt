@@ -6,7 +6,7 @@ use Rattle.grammar.proofs.class.after.Goals.{then-i-bytes, else-i-bytes}
 pub returns : goal.returns
 returns c =
     let bytes = c.args.bytes.now in
-    c.split-at.ensures.back
+    c.split_at.ensures.back
     ∙ elim c.if-i-bytes.branch [
       | then-i-bytes w ↦ ap (λ (n : ℕ). drop n bytes) w.begin-is
       | else-i-bytes w ↦ ap (λ (n : ℕ). drop n bytes) w.begin-is ∙ drop_all (length bytes) bytes (omega arith) ∙ sym (drop_all (c.args.i + 1) bytes (omega (arith, w.if-i-bytes.false)))

@@ -15,14 +15,14 @@ loop-i-preserved g c =
     read_on_lem g.R.Reader.next g.R.Reader.done c.args.start c.args.expression.now c.loop-i.state c.loop-i.i c.loop-i.invariant c.loop-i-test.true
     c.in-Some.after (sym c.step.ensures ∙ c.in-Some.is)
 
-pub returns-then-may-end : goal.returns-then-may-end
-returns-then-may-end g c =
+pub returns-then-may_end : goal.returns-then-may_end
+returns-then-may_end g c =
     read_end g.R.Reader.next g.R.Reader.done c.args.start c.args.expression.now c.loop-i.state c.loop-i.i c.loop-i.invariant c.loop-i-test.false
-    true (sym c.if-may-end.true ∙ c.may-end.ensures)
+    true (sym c.if-may_end.true ∙ c.may_end.ensures)
 
-pub returns-else-may-end : goal.returns-else-may-end
-returns-else-may-end g c =
+pub returns-else-may_end : goal.returns-else-may_end
+returns-else-may_end g c =
     let at_end_lem : length c.args.expression.now ≡ c.loop-i.i + 0 = omega arith in
     ap Some at_end_lem
     ∙ read_end g.R.Reader.next g.R.Reader.done c.args.start c.args.expression.now c.loop-i.state c.loop-i.i c.loop-i.invariant c.loop-i-test.false
-    false (sym c.if-may-end.false ∙ c.may-end.ensures)
+    false (sym c.if-may_end.false ∙ c.may_end.ensures)

@@ -10,6 +10,6 @@ returns-then-span c =
     let begin = c.args.span.begin in
     let end = c.args.span.end in
     record {
-      value = next_edge line end c.next-edge.result c.next-edge.ensures ∙ sym (cond-true (eqb begin end) (edge_from line (length line - end) (suc end)) (Some end) (eq-eqb begin end c.if-span.true));
-      goes_on = record { filled = λ apart. absurd (apart c.if-span.true); empty = λ _. c.next-edge.ensures };
+      value = next_edge line end c.next_edge.result c.next_edge.ensures ∙ sym (cond-true (eqb begin end) (edge_from line (length line - end) (suc end)) (Some end) (eq-eqb begin end c.if-span.true));
+      goes_on = record { filled = λ apart. absurd (apart c.if-span.true); empty = λ _. c.next_edge.ensures };
     }

@@ -5,5 +5,5 @@ use Rattle.replay.proofs.answers.answer_next_line.Goals as goal
 pub overflow-sub-end : goal.overflow-sub-end
 overflow-sub-end g c =
     let first = c.in-Some.ensures.0 in
-    let cut = c.split-at.ensures.back_len in
+    let cut = c.split_at.ensures.back_len in
     omega (arith, simp length-append at (ap length first.joins))

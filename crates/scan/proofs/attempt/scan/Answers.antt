@@ -6,4 +6,4 @@ use Rattle.scan.proofs.attempt.scan.Goals as goal
 pub returns-in-None : goal.returns-in-None
 returns-in-None g c =
     sym (at_outside (g.T.Attempt.refusal c.args.attempts.now) (g.T.Attempt.at c.args.attempts.now) c.args.expression.now c.args.line.now c.args.place
-    (sym c.refuses.ensures ∙ c.in-None.is) (λ u. c.in-default.ensures.cases.0 u.0))
+    (sym c.refuses.ensures ∙ c.in-None.is) (λ u. c.in_default.ensures.cases.0 u.0))

@@ -20,8 +20,8 @@ returns-in-Bar c =
 
 pub returns-in-Open : goal.returns-in-Open
 returns-in-Open c = ⊎_elim
-    (λ is. tells_open c.args.expression.now c.args.i c.args.item c.args.line.now c.args.place c.args.below.now c.args.here.now c.requires c.is-set.result c.is-set.ensures is)
-    (λ is. tells_close c.args.expression.now c.args.i c.args.item c.args.line.now c.args.place c.args.below.now c.args.here.now c.requires c.is-set.result c.is-set.ensures is)
+    (λ is. tells_open c.args.expression.now c.args.i c.args.item c.args.line.now c.args.place c.args.below.now c.args.here.now c.requires c.is_set.result c.is_set.ensures is)
+    (λ is. tells_close c.args.expression.now c.args.i c.args.item c.args.line.now c.args.place c.args.below.now c.args.here.now c.requires c.is_set.result c.is_set.ensures is)
     c.in-Open.is
 
 pub returns-then-holds : goal.returns-then-holds
@@ -31,9 +31,9 @@ returns-then-holds c =
     let below = c.args.below.now in
     let here = c.args.here.now in
     let t = c.holds.result in
-    let r = c.is-set-then-holds.result in
-    let holds : t ≡ holds_at c.args.item l c.args.place = c.holds.ensures ∙ ap (λ (bs : List ℕ). holds_at c.args.item bs c.args.place) c.as-bytes.ensures.value in
-    let both : r ≡ (t && get_or below c.args.place false) = and_then t _ r c.if-holds.true c.is-set-then-holds.ensures in
+    let r = c.is_set-then-holds.result in
+    let holds : t ≡ holds_at c.args.item l c.args.place = c.holds.ensures ∙ ap (λ (bs : List ℕ). holds_at c.args.item bs c.args.place) c.as_bytes.ensures.value in
+    let both : r ≡ (t && get_or below c.args.place false) = and_then t _ r c.if-holds.true c.is_set-then-holds.ensures in
     ⊎_elim
     (λ is. tells_start e c.args.i c.args.item l c.args.place below here c.requires t r holds both is)
     (⊎_elim
@@ -48,7 +48,7 @@ returns-else-holds c =
     let below = c.args.below.now in
     let here = c.args.here.now in
     let t = c.holds.result in
-    let holds : t ≡ holds_at c.args.item l c.args.place = c.holds.ensures ∙ ap (λ (bs : List ℕ). holds_at c.args.item bs c.args.place) c.as-bytes.ensures.value in
+    let holds : t ≡ holds_at c.args.item l c.args.place = c.holds.ensures ∙ ap (λ (bs : List ℕ). holds_at c.args.item bs c.args.place) c.as_bytes.ensures.value in
     let both : t ≡ (t && get_or below c.args.place false) = and_else t _ c.if-holds.false in
     ⊎_elim
     (λ is. tells_start e c.args.i c.args.item l c.args.place below here c.requires t t holds both is)

@@ -14,11 +14,11 @@ pub loop-at-preserved : goal.loop-at-preserved
 loop-at-preserved c =
     let e = c.args.expression.now in
     let places = vec_items c.loop-at.places in
-    let pushed : places ++ c.loop-at.at ∷ [] ≡ vec_items c.push.new.self = sym c.in-ok-push.ensures.items in (
-      c.item-at-next.ensures.within,
+    let pushed : places ++ c.loop-at.at ∷ [] ≡ vec_items c.push.new.self = sym c.in_ok-push.ensures.items in (
+      c.item_at-next.ensures.within,
       subst (λ (ps : List ℕ). (k : ℕ) → k < length ps → get_or ps k 0 < length e) pushed (within_more (length e) places c.loop-at.at c.loop-at-test.true c.loop-at.invariant.1),
-      λ s. subst (λ (ps : List ℕ). Standing e ps c.item-at-next.result.1) pushed
-          (standing_more e places c.loop-at.at c.item-at-next.result.0 c.item-at-next.result.1 c.loop-at-test.true c.item-at-next.ensures.reads (c.loop-at.invariant.2 s)),
+      λ s. subst (λ (ps : List ℕ). Standing e ps c.item_at-next.result.1) pushed
+          (standing_more e places c.loop-at.at c.item_at-next.result.0 c.item_at-next.result.1 c.loop-at-test.true c.item_at-next.ensures.reads (c.loop-at.invariant.2 s)),
     )
 
 pub returns : goal.returns

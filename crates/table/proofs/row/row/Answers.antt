@@ -5,6 +5,6 @@ use Rattle.table.proofs.row.row.Goals as goal
 
 pub returns : goal.returns
 returns c =
-    let here = c.fill-row.new.here in
-    let long : length here ≡ c.in-ok-row.row.len = omega arith in
-    subst (RowOn c.args.expression.now c.args.i c.args.line.now c.args.below.now) (sym (take_at here _ c.in-ok-row.row.len long)) c.fill-row.ensures
+    let here = c.fill_row.new.here in
+    let long : length here ≡ c.in_ok-row.row.len = omega arith in
+    subst (RowOn c.args.expression.now c.args.i c.args.line.now c.args.below.now) (sym (take_at here _ c.in_ok-row.row.len long)) c.fill_row.ensures

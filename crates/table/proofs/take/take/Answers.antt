@@ -9,18 +9,18 @@ returns-in-Once-Some c = record {
       c.step.result c.step.ensures.steps c.in-Once-Some.is-0 c.in-Once-Some.is-1;
 }
 
-pub returns-then-is-set : goal.returns-then-is-set
-returns-then-is-set c = record {
+pub returns-then-is_set : goal.returns-then-is_set
+returns-then-is_set c = record {
   edge = c.in-Maybe-Some.ensures.edge.0;
   goes = goes_maybe c.args.expression.now c.args.i c.args.piece c.args.times c.args.line.now c.args.place c.args.here.now c.args.below.now c.in-Maybe-Some.q
-      c.step.result c.step.ensures.steps c.in-Maybe-Some.is-0 c.in-Maybe-Some.is-1 c.in-Maybe-Some.ensures.edge.0 (sym c.is-set.ensures ∙ c.if-is-set.true);
+      c.step.result c.step.ensures.steps c.in-Maybe-Some.is-0 c.in-Maybe-Some.is-1 c.in-Maybe-Some.ensures.edge.0 (sym c.is_set.ensures ∙ c.if-is_set.true);
 }
 
-pub returns-else-is-set : goal.returns-else-is-set
-returns-else-is-set c = record {
+pub returns-else-is_set : goal.returns-else-is_set
+returns-else-is_set c = record {
   edge = c.requires;
   goes = goes_without c.args.expression.now c.args.i c.args.piece c.args.times c.args.line.now c.args.place c.args.here.now c.args.below.now
-      c.step.result c.step.ensures.steps c.in-Maybe-Some.is-0 c.in-Maybe-Some.q c.in-Maybe-Some.is-1 c.in-Maybe-Some.ensures.edge.0 (sym c.is-set.ensures ∙ c.if-is-set.false);
+      c.step.result c.step.ensures.steps c.in-Maybe-Some.is-0 c.in-Maybe-Some.q c.in-Maybe-Some.is-1 c.in-Maybe-Some.ensures.edge.0 (sym c.is_set.ensures ∙ c.if-is_set.false);
 }
 
 pub returns-in-Maybe-None : goal.returns-in-Maybe-None

@@ -17,44 +17,44 @@ free limit inner o h is e = let a = h e in cc
 pub run-returns-then-i-expression : goal.run-returns-then-i-expression
 run-returns-then-i-expression t c = ends c.args.expression.now c.args.i c.args.line.now c.args.place c.args.m c.args.limit c.args.marks.now c.if-i-expression.true
 
-pub run-run-times-requires : goal.run-run-times-requires
-run-run-times-requires t c =
+pub run-run_times-requires : goal.run-run_times-requires
+run-run_times-requires t c =
     let E = length c.args.expression.now in
-    let next = c.item-at-item.result.1 in
-    let on = c.item-at-item.ensures.onward c.if-i-expression.false in
-    let in' = c.item-at-item.ensures.within in
+    let next = c.item_at-item.result.1 in
+    let on = c.item_at-item.ensures.onward c.if-i-expression.false in
+    let in' = c.item_at-item.ensures.within in
     let h = no_more (E - next + 1) (E - c.args.i) (length c.args.line.now) (omega arith) in
-    (omega (arith, h), (c.item-at-item.ensures.within, search rules))
+    (omega (arith, h), (c.item_at-item.ensures.within, search rules))
 
 pub run-run-requires : goal.run-run-requires
 run-run-requires t c =
     let E = length c.args.expression.now in
-    let next = c.item-at-item.result.1 in
-    let on = c.item-at-item.ensures.onward c.if-i-expression.false in
+    let next = c.item_at-item.result.1 in
+    let on = c.item_at-item.ensures.onward c.if-i-expression.false in
     let n = length c.args.line.now in
     let h = falls (E - next) (E - c.args.i) n (n + 2) (omega arith) in
-    (omega (arith, h), (c.item-at-item.ensures.within, search rules))
+    (omega (arith, h), (c.item_at-item.ensures.within, search rules))
 
 pub run-run-requires-then-holds : goal.run-run-requires-then-holds
 run-run-requires-then-holds t c =
     let E = length c.args.expression.now in
-    let next = c.item-at-item.result.1 in
-    let on = c.item-at-item.ensures.onward c.if-i-expression.false in
+    let next = c.item_at-item.result.1 in
+    let on = c.item_at-item.ensures.onward c.if-i-expression.false in
     let n = length c.args.line.now in
     let h = falls (E - next) (E - c.args.i) n (n + 2) (omega arith) in
-    (omega (arith, h), (c.item-at-item.ensures.within, search rules))
+    (omega (arith, h), (c.item_at-item.ensures.within, search rules))
 
 pub run-returns-in-Take : goal.run-returns-in-Take
 run-returns-in-Take t c =
     takes c.args.expression.now c.args.i c.args.line.now c.args.place c.args.m c.args.limit c.args.marks.now
-    c.item-at-item.result.0 c.item-at-item.result.1 c.if-i-expression.false c.item-at-item.ensures.reads
+    c.item_at-item.result.0 c.item_at-item.result.1 c.if-i-expression.false c.item_at-item.ensures.reads
     c.in-Some.limit (free c.args.limit c.in-Some.limit c.deeper.result c.deeper.ensures c.in-Some.is)
-    c.run-times.result c.run-times.new.marks c.in-Take.piece c.in-Take.times c.in-Take.is c.run-times.ensures
+    c.run_times.result c.run_times.new.marks c.in-Take.piece c.in-Take.times c.in-Take.is c.run_times.ensures
 
 pub run-returns-in-Bar : goal.run-returns-in-Bar
 run-returns-in-Bar t c =
     bars c.args.expression.now c.args.i c.args.line.now c.args.place c.args.m c.args.limit c.args.marks.now
-    c.item-at-item.result.0 c.item-at-item.result.1 c.if-i-expression.false c.item-at-item.ensures.reads c.in-Bar.is
+    c.item_at-item.result.0 c.item_at-item.result.1 c.if-i-expression.false c.item_at-item.ensures.reads c.in-Bar.is
 
 pub run-returns-in-Open : goal.run-returns-in-Open
 run-returns-in-Open t c =
@@ -62,9 +62,9 @@ run-returns-in-Open t c =
     let l = c.args.line.now in
     let to = free c.args.limit c.in-Some.limit c.deeper.result c.deeper.ensures c.in-Some.is in
     ⊎_elim
-    (λ is. opens e c.args.i l c.args.place c.args.m c.args.limit c.args.marks.now c.item-at-item.result.0 c.item-at-item.result.1 c.if-i-expression.false c.item-at-item.ensures.reads
+    (λ is. opens e c.args.i l c.args.place c.args.m c.args.limit c.args.marks.now c.item_at-item.result.0 c.item_at-item.result.1 c.if-i-expression.false c.item_at-item.ensures.reads
     c.in-Some.limit to c.run.result c.run.new.marks c.note-m.new.marks c.note-m.result c.note-m.ensures is c.run.ensures)
-    (λ is. closes e c.args.i l c.args.place c.args.m c.args.limit c.args.marks.now c.item-at-item.result.0 c.item-at-item.result.1 c.if-i-expression.false c.item-at-item.ensures.reads
+    (λ is. closes e c.args.i l c.args.place c.args.m c.args.limit c.args.marks.now c.item_at-item.result.0 c.item_at-item.result.1 c.if-i-expression.false c.item_at-item.ensures.reads
     c.in-Some.limit to c.run.result c.run.new.marks c.note-m.new.marks c.note-m.result c.note-m.ensures is c.run.ensures)
     c.in-Open.is
 
@@ -81,20 +81,20 @@ run-returns-then-holds t c =
     let i = c.args.i in
     let l = c.args.line.now in
     let p = c.args.place in
-    let item = c.item-at-item.result.0 in
-    let next = c.item-at-item.result.1 in
+    let item = c.item_at-item.result.0 in
+    let next = c.item_at-item.result.1 in
     let lt = c.if-i-expression.false in
-    let reads = c.item-at-item.ensures.reads in
+    let reads = c.item_at-item.ensures.reads in
     let to = free c.args.limit c.in-Some.limit c.deeper.result c.deeper.ensures c.in-Some.is in
-    let same = c.as-bytes.ensures.value in
+    let same = c.as_bytes.ensures.value in
     let yes' = c.if-holds.ensures in
     ⊎_elim
     (λ is. starts e i l p c.args.m c.args.limit c.args.marks.now item next lt reads c.in-Some.limit to c.run-then-holds.result c.run-then-holds.new.marks is
-    (held item tok.Start c.as-bytes.result.now l p true same is yes') c.run-then-holds.ensures)
+    (held item tok.Start c.as_bytes.result.now l p true same is yes') c.run-then-holds.ensures)
     (⊎_elim
     (λ is. ends_line e i l p c.args.m c.args.limit c.args.marks.now item next lt reads c.in-Some.limit to c.run-then-holds.result c.run-then-holds.new.marks is
-    (held item tok.End c.as-bytes.result.now l p true same is yes') c.run-then-holds.ensures)
-    (λ is. absurd (never_holds item c.as-bytes.result.now l p is yes')))
+    (held item tok.End c.as_bytes.result.now l p true same is yes') c.run-then-holds.ensures)
+    (λ is. absurd (never_holds item c.as_bytes.result.now l p is yes')))
     c.in-Start.is
 
 pub run-returns-else-holds : goal.run-returns-else-holds
@@ -103,26 +103,26 @@ run-returns-else-holds t c =
     let i = c.args.i in
     let l = c.args.line.now in
     let p = c.args.place in
-    let item = c.item-at-item.result.0 in
-    let next = c.item-at-item.result.1 in
+    let item = c.item_at-item.result.0 in
+    let next = c.item_at-item.result.1 in
     let lt = c.if-i-expression.false in
-    let reads = c.item-at-item.ensures.reads in
-    let same = c.as-bytes.ensures.value in
+    let reads = c.item_at-item.ensures.reads in
+    let same = c.as_bytes.ensures.value in
     let no' = c.if-holds.ensures in
     ⊎_elim
-    (λ is. not_start e i l p c.args.m c.args.limit c.args.marks.now item next lt reads is (held item tok.Start c.as-bytes.result.now l p false same is no'))
+    (λ is. not_start e i l p c.args.m c.args.limit c.args.marks.now item next lt reads is (held item tok.Start c.as_bytes.result.now l p false same is no'))
     (⊎_elim
-    (λ is. not_end e i l p c.args.m c.args.limit c.args.marks.now item next lt reads is (held item tok.End c.as-bytes.result.now l p false same is no'))
+    (λ is. not_end e i l p c.args.m c.args.limit c.args.marks.now item next lt reads is (held item tok.End c.as_bytes.result.now l p false same is no'))
     (λ is. never e i l p c.args.m c.args.limit c.args.marks.now item next lt reads is))
     c.in-Start.is
 
-pub run-most-returns-in-default-run-most : goal.run-most-returns-in-default-run-most
+pub run-most-returns-in-default-run-most : goal.run_most-returns-in_default-run_most
 run-most-returns-in-default-run-most t c =
     most_first c.args.expression.now c.args.i c.args.piece c.args.next c.args.line.now c.args.place c.args.m c.args.limit c.args.marks.now c.step.result c.step.ensures.steps
     c.in-Some.limit (free c.args.limit c.in-Some.limit c.deeper.result c.deeper.ensures c.in-Some.is)
-    c.run-most.result c.run-most.new.marks c.in-Some-step.q c.in-Some-step.is c.in-default-run-most.not-Failed c.run-most.ensures
+    c.run_most.result c.run_most.new.marks c.in-Some-step.q c.in-Some-step.is c.in_default-run_most.not-Failed c.run_most.ensures
 
-pub run-most-returns : goal.run-most-returns
+pub run-most-returns : goal.run_most-returns
 run-most-returns t c =
     let e = c.args.expression.now in
     let l = c.args.line.now in
@@ -130,43 +130,43 @@ run-most-returns t c =
     elim c.match-step.branch [
       | run-most-in-Some-step+in-Failed w ↦
           most_again e c.args.i c.args.piece c.args.next l c.args.place c.args.m c.args.limit c.args.marks.now c.step.result c.step.ensures.steps
-          c.in-Some.limit to c.run.result c.run.new.marks w.in-Some-step.q w.run-most.new.marks w.in-Some-step.is
-          (subst (λ (r : Outcome). TriedMost e c.args.i c.args.piece c.args.next l w.in-Some-step.q c.args.m c.in-Some.limit c.args.marks.now r w.run-most.new.marks) w.in-Failed.is w.run-most.ensures)
+          c.in-Some.limit to c.run.result c.run.new.marks w.in-Some-step.q w.run_most.new.marks w.in-Some-step.is
+          (subst (λ (r : Outcome). TriedMost e c.args.i c.args.piece c.args.next l w.in-Some-step.q c.args.m c.in-Some.limit c.args.marks.now r w.run_most.new.marks) w.in-Failed.is w.run_most.ensures)
           (subst (λ (ms : List ℕ). Tried e c.args.next l c.args.place c.args.m c.in-Some.limit ms c.run.result c.run.new.marks) w.marks-is c.run.ensures)
       | run-most-in-default-step w ↦
           most_none e c.args.i c.args.piece c.args.next l c.args.place c.args.m c.args.limit c.args.marks.now c.step.result c.step.ensures.steps
-          c.in-Some.limit to c.run.result c.run.new.marks w.in-default-step.is
+          c.in-Some.limit to c.run.result c.run.new.marks w.in_default-step.is
           (subst (λ (ms : List ℕ). Tried e c.args.next l c.args.place c.args.m c.in-Some.limit ms c.run.result c.run.new.marks) w.marks-is c.run.ensures)
     ]
 
-pub run-times-returns-in-Once-Some : goal.run-times-returns-in-Once-Some
+pub run-times-returns-in-Once-Some : goal.run_times-returns-in-Once-Some
 run-times-returns-in-Once-Some t c =
     once_on c.args.expression.now c.args.i c.args.piece c.args.next c.args.line.now c.args.place c.args.m c.args.limit c.args.marks.now c.step-taken.result c.step-taken.ensures.steps
     c.args.times c.run.result c.run.new.marks c.in-Once-Some.q c.in-Once-Some.is-0 c.in-Once-Some.is-1 c.run.ensures
 
-pub run-times-returns-in-Failed : goal.run-times-returns-in-Failed
+pub run-times-returns-in-Failed : goal.run_times-returns-in-Failed
 run-times-returns-in-Failed t c =
     maybe_again c.args.expression.now c.args.i c.args.piece c.args.next c.args.line.now c.args.place c.args.m c.args.limit c.args.marks.now c.step-taken.result c.step-taken.ensures.steps
     c.args.times c.run-in-Failed.result c.run-in-Failed.new.marks c.in-Maybe-Some.q c.run-in-Maybe-Some.new.marks c.in-Maybe-Some.is-0 c.in-Maybe-Some.is-1
     (subst (λ (r : Outcome). Tried c.args.expression.now c.args.next c.args.line.now c.in-Maybe-Some.q c.args.m c.args.limit c.args.marks.now r c.run-in-Maybe-Some.new.marks) c.in-Failed.is c.run-in-Maybe-Some.ensures)
     c.run-in-Failed.ensures
 
-pub run-times-returns-in-default : goal.run-times-returns-in-default
+pub run-times-returns-in-default : goal.run_times-returns-in_default
 run-times-returns-in-default t c =
     maybe_first c.args.expression.now c.args.i c.args.piece c.args.next c.args.line.now c.args.place c.args.m c.args.limit c.args.marks.now c.step-taken.result c.step-taken.ensures.steps
-    c.args.times c.run-in-Maybe-Some.result c.run-in-Maybe-Some.new.marks c.in-Maybe-Some.q c.in-Maybe-Some.is-0 c.in-Maybe-Some.is-1 c.in-default.not-Failed c.run-in-Maybe-Some.ensures
+    c.args.times c.run-in-Maybe-Some.result c.run-in-Maybe-Some.new.marks c.in-Maybe-Some.q c.in-Maybe-Some.is-0 c.in-Maybe-Some.is-1 c.in_default.not-Failed c.run-in-Maybe-Some.ensures
 
-pub run-times-returns-in-Maybe-None : goal.run-times-returns-in-Maybe-None
+pub run-times-returns-in-Maybe-None : goal.run_times-returns-in-Maybe-None
 run-times-returns-in-Maybe-None t c =
     maybe_none c.args.expression.now c.args.i c.args.piece c.args.next c.args.line.now c.args.place c.args.m c.args.limit c.args.marks.now c.step-taken.result c.step-taken.ensures.steps
     c.args.times c.run-in-Maybe-None.result c.run-in-Maybe-None.new.marks c.in-Maybe-None.is-0 c.in-Maybe-None.is-1 c.run-in-Maybe-None.ensures
 
-pub run-times-returns-in-Many-default : goal.run-times-returns-in-Many-default
+pub run-times-returns-in-Many-default : goal.run_times-returns-in-Many-default
 run-times-returns-in-Many-default t c =
     many_on c.args.expression.now c.args.i c.args.piece c.args.next c.args.line.now c.args.place c.args.m c.args.limit c.args.marks.now c.step-taken.result c.step-taken.ensures.steps
-    c.args.times c.run-most.result c.run-most.new.marks c.in-Many-default.is-0 c.run-most.ensures
+    c.args.times c.run_most.result c.run_most.new.marks c.in-Many-default.is-0 c.run_most.ensures
 
-pub run-times-returns-in-Some-Some : goal.run-times-returns-in-Some-Some
+pub run-times-returns-in-Some-Some : goal.run_times-returns-in-Some-Some
 run-times-returns-in-Some-Some t c =
     some_on c.args.expression.now c.args.i c.args.piece c.args.next c.args.line.now c.args.place c.args.m c.args.limit c.args.marks.now c.step-taken.result c.step-taken.ensures.steps
-    c.args.times c.run-most-in-Some-Some.result c.run-most-in-Some-Some.new.marks c.in-Some-Some.q c.in-Some-Some.is-0 c.in-Some-Some.is-1 c.run-most-in-Some-Some.ensures
+    c.args.times c.run_most-in-Some-Some.result c.run_most-in-Some-Some.new.marks c.in-Some-Some.q c.in-Some-Some.is-0 c.in-Some-Some.is-1 c.run_most-in-Some-Some.ensures

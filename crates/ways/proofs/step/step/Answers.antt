@@ -25,32 +25,32 @@ module _ (e : List ℕ) (i : ℕ) (t : Piece) (bytes line : List ℕ) (p : ℕ) 
 
 pub returns-then-place-bytes : goal.returns-then-place-bytes
 returns-then-place-bytes c = record {
-  steps = λ x written. step_none c.args.line.now x c.args.place (omega (arith, c.as-bytes-bytes.ensures.len, c.if-place-bytes.true));
+  steps = λ x written. step_none c.args.line.now x c.args.place (omega (arith, c.as_bytes-bytes.ensures.len, c.if-place-bytes.true));
   edge = tt;
 }
 
 pub returns-then-takes : goal.returns-then-takes
 returns-then-takes c =
     let u : IsUtf8 c.args.line.now = search rules in
-    let lt : c.args.place < length c.as-bytes-bytes.result.now = omega arith in
-    let bytes = c.as-bytes-bytes.result.now in
+    let lt : c.args.place < length c.as_bytes-bytes.result.now = omega arith in
+    let bytes = c.as_bytes-bytes.result.now in
     let line = c.args.line.now in
     let told = subst (λ (r : Bool). Takes c.args.expression.now c.args.i c.args.piece bytes c.args.place r) c.if-takes.true c.takes.ensures in
     record {
       steps = λ x written.
           ap (λ (n : ℕ). Some (c.args.place + n)) c.width.ensures
-          ∙ steps_on c.args.expression.now c.args.i c.args.piece bytes line c.args.place c.as-bytes-bytes.ensures.value u c.requires lt true told x written;
+          ∙ steps_on c.args.expression.now c.args.i c.args.piece bytes line c.args.place c.as_bytes-bytes.ensures.value u c.requires lt true told x written;
       edge = subst (λ (n : ℕ). IsCharBoundary line (c.args.place + n) × (c.args.place < c.args.place + n)) (sym c.width.ensures)
-          (goes c.args.expression.now c.args.i c.args.piece bytes line c.args.place c.as-bytes-bytes.ensures.value u c.requires lt true told);
+          (goes c.args.expression.now c.args.i c.args.piece bytes line c.args.place c.as_bytes-bytes.ensures.value u c.requires lt true told);
     }
 
 pub returns-else-takes : goal.returns-else-takes
 returns-else-takes c =
     let u : IsUtf8 c.args.line.now = search rules in
-    let lt : c.args.place < length c.as-bytes-bytes.result.now = omega arith in
-    let bytes = c.as-bytes-bytes.result.now in
+    let lt : c.args.place < length c.as_bytes-bytes.result.now = omega arith in
+    let bytes = c.as_bytes-bytes.result.now in
     let told = subst (λ (r : Bool). Takes c.args.expression.now c.args.i c.args.piece bytes c.args.place r) c.if-takes.false c.takes.ensures in
     record {
-      steps = steps_on c.args.expression.now c.args.i c.args.piece bytes c.args.line.now c.args.place c.as-bytes-bytes.ensures.value u c.requires lt false told;
+      steps = steps_on c.args.expression.now c.args.i c.args.piece bytes c.args.line.now c.args.place c.as_bytes-bytes.ensures.value u c.requires lt false told;
       edge = tt;
     }

@@ -6,5 +6,5 @@ use Rattle.ways.proofs.step.takes_wide.Goals as goal
 
 pub returns-in-Wide : goal.returns-in-Wide
 returns-in-Wide c =
-    subst (λ (t : Piece). AcceptsWide c.args.expression.now c.args.i t c.args.line.now c.args.place c.same-bytes.result) (sym c.in-Wide.is)
-    (wide_tells c.args.expression.now c.args.i c.args.line.now c.args.place c.in-Wide.more c.same-bytes.result c.same-bytes.ensures)
+    subst (λ (t : Piece). AcceptsWide c.args.expression.now c.args.i t c.args.line.now c.args.place c.same_bytes.result) (sym c.in-Wide.is)
+    (wide_tells c.args.expression.now c.args.i c.args.line.now c.args.place c.in-Wide.more c.same_bytes.result c.same_bytes.ensures)

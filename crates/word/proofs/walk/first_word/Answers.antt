@@ -21,7 +21,7 @@ loop-b-preserved c =
       | then-divides+in-default w ↦
           let on = at_bar l p e c.loop-b.walk i c.loop-b-test.true (sym c.divides.ensures ∙ w.if-divides.true) in
           ap (λ (x : Walk). found l p x (drop (i + 1) e)) (w.walk-is ∙ w.begin-walk-then-divides.ensures)
-          ∙ sym (on ∙ ap (λ o. or_end o (found l p (fresh p) (drop (i + 1) e))) (sym w.end.ensures ∙ w.in-default.is)) ∙ c.loop-b.invariant
+          ∙ sym (on ∙ ap (λ o. or_end o (found l p (fresh p) (drop (i + 1) e))) (sym w.end.ensures ∙ w.in_default.is)) ∙ c.loop-b.invariant
       | else-divides w ↦
           let on = at_byte l p e c.loop-b.walk i c.loop-b-test.true (sym c.divides.ensures ∙ w.if-divides.false) in
           ap (λ (x : Walk). found l p x (drop (i + 1) e)) (w.walk-is ∙ w.step-walk.ensures) ∙ sym on ∙ c.loop-b.invariant

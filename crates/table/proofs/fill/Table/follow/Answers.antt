@@ -29,11 +29,11 @@ loop-at-preserved c =
     let q = c.loop-at.end in
     let m = c.loop-at.m in
     let ns = c.loop-at.marks in
-    let item = c.item-at-item.result.0 in
-    let next = c.item-at-item.result.1 in
+    let item = c.item_at-item.result.0 in
+    let next = c.item_at-item.result.1 in
     let lt = c.loop-at-test.true in
-    let reads = c.item-at-item.ensures.reads in (
-      c.item-at-item.ensures.within,
+    let reads = c.item_at-item.ensures.reads in (
+      c.item_at-item.ensures.within,
       elim c.match-item.branch [
         | in-Take w ↦ subst (IsCharBoundary l) (sym w.end-is) w.take-end.ensures.edge
         | in-Open w ↦ subst (IsCharBoundary l) (sym w.end-is) c.loop-at.invariant.1
@@ -43,23 +43,23 @@ loop-at-preserved c =
           let walking = c.loop-at.invariant.2 is a in
           elim c.match-item.branch [
             | in-Take w ↦
-                moved e l is p ms next (row - 1) c.saturating-sub-row.result w.take-end.result c.match-item.end m c.match-item.m ns c.match-item.marks
-                c.saturating-sub-row.ensures w.end-is w.m-is w.marks-is
+                moved e l is p ms next (row - 1) c.saturating_sub-row.result w.take-end.result c.match-item.end m c.match-item.m ns c.match-item.marks
+                c.saturating_sub-row.ensures w.end-is w.m-is w.marks-is
                 (walk_take e l is p ms at row q m ns walking item next lt reads c.args.self.now c.requires.filled w.in-Take.piece w.in-Take.times w.cells-here.result.now w.cells-below.result.now w.take-end.result
                 w.in-Take.is
                 (w.cells-here.ensures ∙ ap (λ (vs : List (Vec Bool Global)). row_at vs row) w.deref.ensures.value)
-                (w.cells-below.ensures ∙ ap (λ (vs : List (Vec Bool Global)). row_at vs w.saturating-sub.result) w.deref-in-Take.ensures.value ∙ ap (row_at (vec_items c.args.self.now.rows)) w.saturating-sub.ensures)
+                (w.cells-below.ensures ∙ ap (λ (vs : List (Vec Bool Global)). row_at vs w.saturating_sub.result) w.deref-in-Take.ensures.value ∙ ap (row_at (vec_items c.args.self.now.rows)) w.saturating_sub.ensures)
                 w.take-end.ensures.goes)
             | in-Open w ↦
-                moved e l is p ms next (row - 1) c.saturating-sub-row.result q c.match-item.end w.note-m.result c.match-item.m w.note-m.new.marks c.match-item.marks
-                c.saturating-sub-row.ensures w.end-is w.m-is w.marks-is
+                moved e l is p ms next (row - 1) c.saturating_sub-row.result q c.match-item.end w.note-m.result c.match-item.m w.note-m.new.marks c.match-item.marks
+                c.saturating_sub-row.ensures w.end-is w.m-is w.marks-is
                 (⊎_elim
                 (λ is_open. walk_open e l is p ms at row q m ns walking item next lt reads w.note-m.new.marks w.note-m.result w.note-m.ensures is_open)
                 (λ is-close. walk_close e l is p ms at row q m ns walking item next lt reads w.note-m.new.marks w.note-m.result w.note-m.ensures is-close)
                 w.in-Open.is)
             | in-Start w ↦
-                moved e l is p ms next (row - 1) c.saturating-sub-row.result q c.match-item.end m c.match-item.m ns c.match-item.marks
-                c.saturating-sub-row.ensures w.end-is w.m-is w.marks-is
+                moved e l is p ms next (row - 1) c.saturating_sub-row.result q c.match-item.end m c.match-item.m ns c.match-item.marks
+                c.saturating_sub-row.ensures w.end-is w.m-is w.marks-is
                 (⊎_elim
                 (λ is-start. walk_start e l is p ms at row q m ns walking item next lt reads is-start)
                 (⊎_elim
@@ -72,7 +72,7 @@ loop-at-preserved c =
 pub returns-in-Bar : goal.returns-in-Bar
 returns-in-Bar c is a =
     walk_bar c.args.expression.now c.args.line.now is c.args.place c.args.marks.now c.loop-at.at c.loop-at.row c.loop-at.end c.loop-at.m c.loop-at.marks (c.loop-at.invariant.2 is a)
-    c.item-at-item.result.0 c.item-at-item.result.1 c.loop-at-test.true c.item-at-item.ensures.reads c.in-Bar.is
+    c.item_at-item.result.0 c.item_at-item.result.1 c.loop-at-test.true c.item_at-item.ensures.reads c.in-Bar.is
 
 pub returns : goal.returns
 returns c is a =

@@ -7,42 +7,42 @@ loop-start-init c = (c.requires.within, c.requires.few.0, c.requires.few.1, omeg
 
 pub returns-in-Bar : goal.returns-in-Bar
 returns-in-Bar c =
-    let on = c.item-at-item.ensures.onward c.loop-start-test.true in
+    let on = c.item_at-item.ensures.onward c.loop-start-test.true in
     let inv = c.loop-start.invariant in
     record {
-      onward = (omega arith, c.item-at-item.ensures.within, omega arith, omega arith);
+      onward = (omega arith, c.item_at-item.ensures.within, omega arith, omega arith);
       after = λ is b.
-          at_bar c.args.expression.now c.args.self is c.loop-start.start c.item-at-item.result.0 c.item-at-item.result.1 c.loop-start-test.true c.item-at-item.ensures.reads (inv.4 is b).0 (inv.4 is b).1
+          at_bar c.args.expression.now c.args.self is c.loop-start.start c.item_at-item.result.0 c.item_at-item.result.1 c.loop-start-test.true c.item_at-item.ensures.reads (inv.4 is b).0 (inv.4 is b).1
           _ refl refl refl c.in-Bar.is;
     }
 
 pub loop-start-preserved-in-Open : goal.loop-start-preserved-in-Open
 loop-start-preserved-in-Open c =
-    let on = c.item-at-item.ensures.onward c.loop-start-test.true in
+    let on = c.item_at-item.ensures.onward c.loop-start-test.true in
     let inv = c.loop-start.invariant in (
-      c.item-at-item.ensures.within,
+      c.item_at-item.ensures.within,
       omega arith,
       omega arith,
       omega arith,
       λ is b. (
         _,
-        at_open c.args.expression.now c.args.self is c.loop-start.start c.item-at-item.result.0 c.item-at-item.result.1 c.loop-start-test.true c.item-at-item.ensures.reads (inv.4 is b).0 (inv.4 is b).1
+        at_open c.args.expression.now c.args.self is c.loop-start.start c.item_at-item.result.0 c.item_at-item.result.1 c.loop-start-test.true c.item_at-item.ensures.reads (inv.4 is b).0 (inv.4 is b).1
             _ refl refl refl c.in-Open.is,
       ),
     )
 
 pub loop-start-preserved : goal.loop-start-preserved
 loop-start-preserved c =
-    let on = c.item-at-item.ensures.onward c.loop-start-test.true in
+    let on = c.item_at-item.ensures.onward c.loop-start-test.true in
     let inv = c.loop-start.invariant in (
-      c.item-at-item.ensures.within,
+      c.item_at-item.ensures.within,
       omega arith,
       omega arith,
       omega arith,
       λ is b. (
         _,
-        at_other c.args.expression.now c.args.self is c.loop-start.start c.item-at-item.result.0 c.item-at-item.result.1 c.loop-start-test.true c.item-at-item.ensures.reads (inv.4 is b).0 (inv.4 is b).1
-            _ refl refl refl c.in-default.not-Bar c.in-default.not-Open,
+        at_other c.args.expression.now c.args.self is c.loop-start.start c.item_at-item.result.0 c.item_at-item.result.1 c.loop-start-test.true c.item_at-item.ensures.reads (inv.4 is b).0 (inv.4 is b).1
+            _ refl refl refl c.in_default.not-Bar c.in_default.not-Open,
       ),
     )
 

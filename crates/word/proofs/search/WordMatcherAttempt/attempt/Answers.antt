@@ -13,15 +13,15 @@ module _ (e bytes line : List ℕ) (p : ℕ) (same : bytes ≡ line) where
   walked : free_before bytes p ≡ true → (o : Option ℕ) → o ≡ found bytes p (fresh p) e → spanned p o ≡ word_at e line p
   walked h o is = sym (ap (λ l. word_at e l p) (sym same) ∙ walk_found bytes p e h ∙ ap (spanned p) (sym is))
 
-pub returns-then-not-free-before : goal.returns-then-not-free-before
-returns-then-not-free-before c =
-    touched c.args.expression.now c.as-bytes-bytes.result.now c.args.line.now c.args.place c.as-bytes-bytes.ensures.value (sym c.if-not-free-before.ensures)
+pub returns-then-not-free_before : goal.returns-then-not-free_before
+returns-then-not-free_before c =
+    touched c.args.expression.now c.as_bytes-bytes.result.now c.args.line.now c.args.place c.as_bytes-bytes.ensures.value (sym c.if-not-free_before.ensures)
 
 pub returns-in-Some : goal.returns-in-Some
 returns-in-Some c =
     ap Some c.spanning.ensures
-    ∙ walked c.args.expression.now c.as-bytes-bytes.result.now c.args.line.now c.args.place c.as-bytes-bytes.ensures.value (sym c.if-not-free-before.ensures) (Some c.in-Some.end) (sym c.in-Some.is ∙ c.first-word.ensures)
+    ∙ walked c.args.expression.now c.as_bytes-bytes.result.now c.args.line.now c.args.place c.as_bytes-bytes.ensures.value (sym c.if-not-free_before.ensures) (Some c.in-Some.end) (sym c.in-Some.is ∙ c.first_word.ensures)
 
 pub returns-in-None : goal.returns-in-None
 returns-in-None c =
-    walked c.args.expression.now c.as-bytes-bytes.result.now c.args.line.now c.args.place c.as-bytes-bytes.ensures.value (sym c.if-not-free-before.ensures) None (sym c.in-None.is ∙ c.first-word.ensures)
+    walked c.args.expression.now c.as_bytes-bytes.result.now c.args.line.now c.args.place c.as_bytes-bytes.ensures.value (sym c.if-not-free_before.ensures) None (sym c.in-None.is ∙ c.first_word.ensures)
