@@ -19,7 +19,7 @@ pub trait Reader: Copy {
 
 // How many bytes were read before the reading failed; none where the expression is legal.
 pub fn refusal<R: Reader>(start: R, expression: &[u8]) -> Option<usize>
-    ensures { result ≡ refuses next done start expression.now }
+    ensures { result ≡ refuses R.next R.done start expression.now }
 {
     let mut state = start;
     for (i, b) in expression.iter().enumerate() {

@@ -39,7 +39,7 @@ pub fn all_matches<M: Matcher>(
     expression: &[u8],
     line: &str,
 ) -> Result<Vec<Span>, Failure>
-    ensures { MatchResult result (λ v. Matches (means matcher.now) expression.now line.now v.items) (λ x. Failed (means matcher.now) expression.now x) }
+    ensures { MatchResult result (λ v. Matches (M.means matcher.now) expression.now line.now v.items) (λ x. Failed (M.means matcher.now) expression.now x) }
 {
     let mut spans = Vec::new(heap);
     let mut place = Some(0);
