@@ -38,7 +38,7 @@ pub fn next_place(line: &str, span: Span) -> Option<usize>
 
 // The first match from the place on. Off the edges of the line there is none. It costs one search.
 pub fn next_match<M: Matcher>(matcher: &M, expression: &[u8], line: &str, place: usize) -> Step
-    ensures means { result ≡ stepped line.now (means matcher.now expression.now line.now place) }
+    ensures means { result ≡ stepped line.now (M.means matcher.now expression.now line.now place) }
     ensures onward { Onward line.now place result }
 {
     match matcher.search_text(expression, line, place) {

@@ -33,8 +33,8 @@ fn attempt_here<T: Attempt>(
     line: &str,
     place: usize,
 ) -> Option<Region>
-    requires { refusal attempts.now expression.now ≡ Neither }
-    ensures { result ≡ at_edges line.now (at attempts.now expression.now line.now) place }
+    requires { T.refusal attempts.now expression.now ≡ Neither }
+    ensures { result ≡ at_edges line.now (T.at attempts.now expression.now line.now) place }
 {
     if is_edge(line, place) {
         attempts.attempt(expression, line, place)
@@ -50,9 +50,9 @@ fn first_from<T: Attempt>(
     line: &str,
     place: usize,
 ) -> Option<Region>
-    requires expression_value { refusal attempts.now expression.now ≡ Neither }
+    requires expression_value { T.refusal attempts.now expression.now ≡ Neither }
     requires char_boundary { IsCharBoundary line.now place }
-    ensures { result ≡ earliest_from line.now (at attempts.now expression.now line.now) place }
+    ensures { result ≡ earliest_from line.now (T.at attempts.now expression.now line.now) place }
 {
     let mut at = place;
     loop {
@@ -68,7 +68,7 @@ fn first_from<T: Attempt>(
 
 // What is found in a UTF-8 line.
 pub fn scan_text<T: Attempt>(attempts: &T, expression: &[u8], line: &str, place: usize) -> Answer
-    ensures { result ≡ earliest (refusal attempts.now) (at attempts.now) expression.now line.now place }
+    ensures { result ≡ earliest (T.refusal attempts.now) (T.at attempts.now) expression.now line.now place }
 {
     if let Some(fault) = attempts.refuses(expression) {
         return Answer::Refused(fault);
@@ -84,7 +84,7 @@ pub fn scan_text<T: Attempt>(attempts: &T, expression: &[u8], line: &str, place:
 
 // What is found in any line.
 pub fn scan<T: Attempt>(attempts: &T, expression: &[u8], line: &[u8], place: usize) -> Answer
-    ensures { result ≡ earliest (refusal attempts.now) (at attempts.now) expression.now line.now place }
+    ensures { result ≡ earliest (T.refusal attempts.now) (T.at attempts.now) expression.now line.now place }
 {
     if let Ok(text) = std::str::from_utf8(line) {
         return scan_text(attempts, expression, text, place);

@@ -3,8 +3,8 @@ use Rattle.std.proofs.Common.{◌≤◌, IsUtf8, arith, rules}
 use Rattle.columns.proofs.Spelling.{after_begin}
 use Rattle.columns.proofs.layout.before.Goals as goal
 
-pub overflow-sub-cut : goal.overflow-sub-cut
-overflow-sub-cut c =
+pub overflow_sub-cut : goal.overflow_sub-cut
+overflow_sub-cut c =
     let u : IsUtf8 c.args.text.now = search rules in
     after_begin c.args.text.now c.loop-cut.cut u (cases_from_iff c.loop-cut-test.ensures.test)
 
