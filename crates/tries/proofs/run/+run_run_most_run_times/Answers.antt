@@ -8,7 +8,7 @@ use Rattle.tries.specs.Tried.{holds_at, Tried, TriedMost}
 use Rattle.tries.proofs.Tries.{falls, no_more, ends, spent, takes, bars, opens, closes, starts, ends_line, not_start, not_end, never}
 use Rattle.tries.proofs.Tries.{once_on, some_on, many_on, maybe_none, maybe_first, maybe_again, once_none, some_none, most_first, most_again, most_none, most_spent}
 use Rattle.tries.proofs.run.+run_run_most_run_times.Goals as goal
-use Rattle.tries.proofs.run.+run_run_most_run_times.Goals.{run-most-in-Some-step+in-Failed, run-most-in-default-step}
+use Rattle.tries.proofs.run.+run_run_most_run_times.Goals.{run_most-in-Some-step+in-Failed, run_most-in_default-step}
 
 -- a try without a limit stays without one
 free : (limit inner : Limit) (o : Option Limit) → (limit ≡ Unlimited → o ≡ Some Unlimited) → o ≡ Some inner → limit ≡ Unlimited → inner ≡ Unlimited
@@ -116,57 +116,57 @@ run-returns-else-holds t c =
     (λ is. never e i l p c.args.m c.args.limit c.args.marks.now item next lt reads is))
     c.in-Start.is
 
-pub run-most-returns-in-default-run-most : goal.run_most-returns-in_default-run_most
-run-most-returns-in-default-run-most t c =
+pub run_most-returns-in_default-run_most : goal.run_most-returns-in_default-run_most
+run_most-returns-in_default-run_most t c =
     most_first c.args.expression.now c.args.i c.args.piece c.args.next c.args.line.now c.args.place c.args.m c.args.limit c.args.marks.now c.step.result c.step.ensures.steps
     c.in-Some.limit (free c.args.limit c.in-Some.limit c.deeper.result c.deeper.ensures c.in-Some.is)
     c.run_most.result c.run_most.new.marks c.in-Some-step.q c.in-Some-step.is c.in_default-run_most.not-Failed c.run_most.ensures
 
-pub run-most-returns : goal.run_most-returns
-run-most-returns t c =
+pub run_most-returns : goal.run_most-returns
+run_most-returns t c =
     let e = c.args.expression.now in
     let l = c.args.line.now in
     let to = free c.args.limit c.in-Some.limit c.deeper.result c.deeper.ensures c.in-Some.is in
     elim c.match-step.branch [
-      | run-most-in-Some-step+in-Failed w ↦
+      | run_most-in-Some-step+in-Failed w ↦
           most_again e c.args.i c.args.piece c.args.next l c.args.place c.args.m c.args.limit c.args.marks.now c.step.result c.step.ensures.steps
           c.in-Some.limit to c.run.result c.run.new.marks w.in-Some-step.q w.run_most.new.marks w.in-Some-step.is
           (subst (λ (r : Outcome). TriedMost e c.args.i c.args.piece c.args.next l w.in-Some-step.q c.args.m c.in-Some.limit c.args.marks.now r w.run_most.new.marks) w.in-Failed.is w.run_most.ensures)
           (subst (λ (ms : List ℕ). Tried e c.args.next l c.args.place c.args.m c.in-Some.limit ms c.run.result c.run.new.marks) w.marks-is c.run.ensures)
-      | run-most-in-default-step w ↦
+      | run_most-in_default-step w ↦
           most_none e c.args.i c.args.piece c.args.next l c.args.place c.args.m c.args.limit c.args.marks.now c.step.result c.step.ensures.steps
           c.in-Some.limit to c.run.result c.run.new.marks w.in_default-step.is
           (subst (λ (ms : List ℕ). Tried e c.args.next l c.args.place c.args.m c.in-Some.limit ms c.run.result c.run.new.marks) w.marks-is c.run.ensures)
     ]
 
-pub run-times-returns-in-Once-Some : goal.run_times-returns-in-Once-Some
-run-times-returns-in-Once-Some t c =
+pub run_times-returns-in-Once-Some : goal.run_times-returns-in-Once-Some
+run_times-returns-in-Once-Some t c =
     once_on c.args.expression.now c.args.i c.args.piece c.args.next c.args.line.now c.args.place c.args.m c.args.limit c.args.marks.now c.step-taken.result c.step-taken.ensures.steps
     c.args.times c.run.result c.run.new.marks c.in-Once-Some.q c.in-Once-Some.is-0 c.in-Once-Some.is-1 c.run.ensures
 
-pub run-times-returns-in-Failed : goal.run_times-returns-in-Failed
-run-times-returns-in-Failed t c =
+pub run_times-returns-in-Failed : goal.run_times-returns-in-Failed
+run_times-returns-in-Failed t c =
     maybe_again c.args.expression.now c.args.i c.args.piece c.args.next c.args.line.now c.args.place c.args.m c.args.limit c.args.marks.now c.step-taken.result c.step-taken.ensures.steps
     c.args.times c.run-in-Failed.result c.run-in-Failed.new.marks c.in-Maybe-Some.q c.run-in-Maybe-Some.new.marks c.in-Maybe-Some.is-0 c.in-Maybe-Some.is-1
     (subst (λ (r : Outcome). Tried c.args.expression.now c.args.next c.args.line.now c.in-Maybe-Some.q c.args.m c.args.limit c.args.marks.now r c.run-in-Maybe-Some.new.marks) c.in-Failed.is c.run-in-Maybe-Some.ensures)
     c.run-in-Failed.ensures
 
-pub run-times-returns-in-default : goal.run_times-returns-in_default
-run-times-returns-in-default t c =
+pub run_times-returns-in_default : goal.run_times-returns-in_default
+run_times-returns-in_default t c =
     maybe_first c.args.expression.now c.args.i c.args.piece c.args.next c.args.line.now c.args.place c.args.m c.args.limit c.args.marks.now c.step-taken.result c.step-taken.ensures.steps
     c.args.times c.run-in-Maybe-Some.result c.run-in-Maybe-Some.new.marks c.in-Maybe-Some.q c.in-Maybe-Some.is-0 c.in-Maybe-Some.is-1 c.in_default.not-Failed c.run-in-Maybe-Some.ensures
 
-pub run-times-returns-in-Maybe-None : goal.run_times-returns-in-Maybe-None
-run-times-returns-in-Maybe-None t c =
+pub run_times-returns-in-Maybe-None : goal.run_times-returns-in-Maybe-None
+run_times-returns-in-Maybe-None t c =
     maybe_none c.args.expression.now c.args.i c.args.piece c.args.next c.args.line.now c.args.place c.args.m c.args.limit c.args.marks.now c.step-taken.result c.step-taken.ensures.steps
     c.args.times c.run-in-Maybe-None.result c.run-in-Maybe-None.new.marks c.in-Maybe-None.is-0 c.in-Maybe-None.is-1 c.run-in-Maybe-None.ensures
 
-pub run-times-returns-in-Many-default : goal.run_times-returns-in-Many-default
-run-times-returns-in-Many-default t c =
+pub run_times-returns-in-Many-default : goal.run_times-returns-in-Many-default
+run_times-returns-in-Many-default t c =
     many_on c.args.expression.now c.args.i c.args.piece c.args.next c.args.line.now c.args.place c.args.m c.args.limit c.args.marks.now c.step-taken.result c.step-taken.ensures.steps
     c.args.times c.run_most.result c.run_most.new.marks c.in-Many-default.is-0 c.run_most.ensures
 
-pub run-times-returns-in-Some-Some : goal.run_times-returns-in-Some-Some
-run-times-returns-in-Some-Some t c =
+pub run_times-returns-in-Some-Some : goal.run_times-returns-in-Some-Some
+run_times-returns-in-Some-Some t c =
     some_on c.args.expression.now c.args.i c.args.piece c.args.next c.args.line.now c.args.place c.args.m c.args.limit c.args.marks.now c.step-taken.result c.step-taken.ensures.steps
     c.args.times c.run_most-in-Some-Some.result c.run_most-in-Some-Some.new.marks c.in-Some-Some.q c.in-Some-Some.is-0 c.in-Some-Some.is-1 c.run_most-in-Some-Some.ensures

@@ -3,7 +3,7 @@ use Rattle.word.specs.declared.walk.Walk.{Walk}
 use Rattle.word.specs.Walks.{fresh, or_end, found}
 use Rattle.word.proofs.Walking.{at_bar, at_byte, at_end_lem}
 use Rattle.word.proofs.walk.first_word.Goals as goal
-use Rattle.word.proofs.walk.first_word.Goals.{then-divides+in-default, else-divides}
+use Rattle.word.proofs.walk.first_word.Goals.{then-divides+in_default, else-divides}
 
 pub returns-in-Some : goal.returns-in-Some
 returns-in-Some c =
@@ -18,7 +18,7 @@ loop-b-preserved c =
     let e = c.args.expression.now in
     let i = c.loop-b.b-index in
     elim c.if-divides.branch [
-      | then-divides+in-default w ↦
+      | then-divides+in_default w ↦
           let on = at_bar l p e c.loop-b.walk i c.loop-b-test.true (sym c.divides.ensures ∙ w.if-divides.true) in
           ap (λ (x : Walk). found l p x (drop (i + 1) e)) (w.walk-is ∙ w.begin-walk-then-divides.ensures)
           ∙ sym (on ∙ ap (λ o. or_end o (found l p (fresh p) (drop (i + 1) e))) (sym w.end.ensures ∙ w.in_default.is)) ∙ c.loop-b.invariant
