@@ -2,7 +2,7 @@
 use Rattle.std.proofs.Common.{◌≡◌, ℕ, zero, suc, ◌+◌, ◌-◌, ◌*◌, ◌<◌, ◌≤◌, Bool, true, false, cond, ◌||◌, ltb, leb, ◌⊎◌, List, [], ◌∷◌, length, get_or, take, drop, Ok, Err, Result, sym, refl, ap, ◌∙◌, subst, inl, inr, ⊎_elim, arith, le-ltb, lt-ltb, le-leb, MatchResult}
 use Rattle.std.proofs.lemmas.List.{at_drop_more}
 use borrow.Author.Tests.{lt-leb}
-use Rattle.std.specs.List.{AllByRecursion as All}
+use Rattle.std.specs.List.{AllByRecursion}
 use Rattle.std.proofs.lemmas.Bool.{cond-true, cond-false, cases_lt, or_left, or_right, or_from}
 use Rattle.cases.specs.declared.fault.Fault.{Fault}
 use Rattle.cases.specs.declared.fault.Fault.TheVariants.{Missing, Extra, NoDigits, NoDigit, TooLarge, NoBytes, OddDigits, NoHexadecimal, Memory}
@@ -37,7 +37,7 @@ grew n d =
 
 -- what the reading from n on says
 abbrev Law : ℕ → List ℕ → Result ℕ Fault → Type 0
-Law n ds (Ok m) = All Digit ds × (m ≡ value_from n ds) × (m ≤ most)
+Law n ds (Ok m) = AllByRecursion Digit ds × (m ≡ value_from n ds) × (m ≤ most)
 Law n ds (Err x) = BlamedFrom n x ds
 
 -- one digit before it

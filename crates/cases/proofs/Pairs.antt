@@ -1,6 +1,6 @@
 -- Hexadecimal digits, read and written. Assumes nothing.
 use Rattle.std.proofs.Common.{◌≡◌, ℕ, zero, suc, ◌+◌, ◌-◌, ◌*◌, ◌/◌, ◌%◌, ◌<◌, ◌≤◌, cond, ltb, ◌⊎◌, List, [], ◌∷◌, ◌++◌, length, get_or, drop, Some, None, Option, sym, refl, ap, ◌∙◌, subst, inl, inr, ⊎_elim, append_assoc, append-nil, le_of_suc-le-suc, arith, le-ltb, lt-ltb}
-use Rattle.std.specs.List.{AllByRecursion as All}
+use Rattle.std.specs.List.{AllByRecursion}
 use Rattle.std.proofs.lemmas.List.{drop_more, drop_all}
 use Rattle.std.proofs.lemmas.Bool.{cond-true, cond-false, cases_lt}
 use Rattle.cases.specs.Hex.{digit_of, byte_of, digit, written, spelled, Illegible}
@@ -99,7 +99,7 @@ length_written : (bs : List ℕ) → length (written bs) ≡ 2 * length bs
 length_written [] = refl
 length_written (b ∷ bs) = let h = length_written bs in omega arith
 
-written_digits : (bs : List ℕ) → All (λ (b : ℕ). b < 256) bs → (k : ℕ) → k < length (written bs) → digit_of (get_or (written bs) k 0) ≡ None → ⊥
+written_digits : (bs : List ℕ) → AllByRecursion (λ (b : ℕ). b < 256) bs → (k : ℕ) → k < length (written bs) → digit_of (get_or (written bs) k 0) ≡ None → ⊥
 written_digits [] bytes k lt h = omega arith
 written_digits (b ∷ bs) bytes zero lt h = let small = bytes.0 in read_by (b / 16) (omega arith) h (valued (digit (b / 16)))
 written_digits (b ∷ bs) bytes (suc zero) lt h = read_by (b % 16) (omega arith) h (valued (digit (b % 16)))

@@ -1,6 +1,6 @@
 -- The fields of a record, joined and apart. Assumes nothing.
 use Rattle.std.proofs.Common.{◌≡◌, ℕ, zero, suc, ◌<◌, ◌≤◌, cond, eqb, List, [], ◌∷◌, ◌++◌, length, get_or, take, drop, sym, refl, ap, ◌∙◌, subst, le_of_suc-le-suc, arith}
-use Rattle.std.specs.List.{AllByRecursion as All}
+use Rattle.std.specs.List.{AllByRecursion}
 use Rattle.std.proofs.lemmas.Bool.{cond_both, cond-true, cond-false, eqb-true, eqb-false, eq-eqb, ne_eqb}
 use Rattle.cases.specs.Fields.{onto, fields_of, spaced, Whole, Parted}
 
@@ -32,14 +32,14 @@ whole_more : (b : ℕ) (f : List ℕ) → (b ≡ 32 → ⊥) → Whole f → Who
 whole_more b f n w zero lt e = n e
 whole_more b f n w (suc k) lt e = w k (le_of_suc-le-suc lt) e
 
-whole_onto : (b : ℕ) (fs : List (List ℕ)) → (b ≡ 32 → ⊥) → All Whole fs → All Whole (onto b fs)
+whole_onto : (b : ℕ) (fs : List (List ℕ)) → (b ≡ 32 → ⊥) → AllByRecursion Whole fs → AllByRecursion Whole (onto b fs)
 whole_onto b [] n all = (whole_more b [] n (λ k lt e. omega arith), tt)
 whole_onto b (f ∷ fs) n all = (whole_more b f n all.0, all.1)
 
-whole : (bs : List ℕ) → All Whole (fields_of bs)
+whole : (bs : List ℕ) → AllByRecursion Whole (fields_of bs)
 whole [] = (λ k lt e. omega arith, tt)
 whole (b ∷ bs) =
-    cond_both (eqb b 32) ([] ∷ fields_of bs) (onto b (fields_of bs)) (All Whole)
+    cond_both (eqb b 32) ([] ∷ fields_of bs) (onto b (fields_of bs)) (AllByRecursion Whole)
     (λ e. (λ k lt x. omega arith, whole bs)) (λ e. whole_onto b (fields_of bs) (eqb-false b 32 e) (whole bs))
 
 pub parted : (bs : List ℕ) → Parted bs

@@ -3,7 +3,7 @@ use Rattle.std.specs.Prelude.{◌≡◌, ℕ, ◌<◌, cond, ◌⊎◌, List, []
 use Rattle.std.specs.Borrow.{Bor}
 use Rattle.cases.specs.declared.fault.Fault.{Fault}
 use Rattle.cases.specs.declared.fault.Fault.TheVariants.{Missing}
-use Rattle.std.specs.List.{AllByRecursion as All}
+use Rattle.std.specs.List.{AllByRecursion}
 
 abbrev pub onto : ℕ → List (List ℕ) → List (List ℕ)
 onto b [] = (b ∷ []) ∷ []
@@ -31,7 +31,7 @@ Whole field = (k : ℕ) → k < length field → slice_index field k ≢ 32
 -- what the fields of a record are: with a space between they are the record, and no field has a space
 pub record Parted (bytes : List ℕ) : Type 0 where
   pub joins : spaced (fields_of bytes) ≡ bytes
-  pub whole : All Whole (fields_of bytes)
+  pub whole : AllByRecursion Whole (fields_of bytes)
 
 -- The first field left is taken, and x is what P has it stand for. A refusal is Q's, of that field, or says that none is left.
 abbrev pub Takes : {X : Type 0} → (X → List ℕ → Type 0) → (Fault → List ℕ → Type 0) → List (List ℕ) → List (List ℕ) → Result X Fault → Type 0

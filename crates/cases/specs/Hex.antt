@@ -1,6 +1,6 @@
 -- Bytes in lower-case hexadecimal. Assumes nothing.
 use Rattle.std.specs.Prelude.{◌≡◌, ℕ, ◌+◌, ◌-◌, ◌*◌, ◌/◌, ◌%◌, ◌<◌, cond, List, [], ◌∷◌, length, Some, None, Option, ◌≢◌, nat_lt, slice_index}
-use Rattle.std.specs.List.{AllByRecursion as All}
+use Rattle.std.specs.List.{AllByRecursion}
 use Rattle.cases.specs.declared.fault.Fault.{Fault}
 use Rattle.cases.specs.declared.fault.Fault.TheVariants.{Missing, Extra, NoDigits, NoDigit, TooLarge, NoBytes, OddDigits, NoHexadecimal, Memory}
 
@@ -29,7 +29,7 @@ spelled (b ∷ bs) = written (b ∷ bs)
 
 -- no bytes are written so
 abbrev pub Illegible : List ℕ → Type 0
-Illegible field = (bs : List ℕ) → All (λ (b : ℕ). b < 256) bs → spelled bs ≢ field
+Illegible field = (bs : List ℕ) → AllByRecursion (λ (b : ℕ). b < 256) bs → spelled bs ≢ field
 
 -- what a refusal says of the field
 abbrev pub Faulty : Fault → List ℕ → Type 0

@@ -1,6 +1,6 @@
 -- Decimal numbers. Assumes nothing.
 use Rattle.std.specs.Prelude.{◌≡◌, ℕ, ◌+◌, ◌-◌, ◌*◌, ◌<◌, ◌≤◌, true, false, cond, ◌||◌, List, [], ◌∷◌, length, take, Ok, Err, Result, nat_le, nat_lt, slice_index}
-use Rattle.std.specs.List.{AllByRecursion as All}
+use Rattle.std.specs.List.{AllByRecursion}
 use Rattle.cases.specs.declared.fault.Fault.{Fault}
 use Rattle.cases.specs.declared.fault.Fault.TheVariants.{Missing, Extra, NoDigits, NoDigit, TooLarge, NoBytes, OddDigits, NoHexadecimal, Memory}
 
@@ -33,7 +33,7 @@ value_from n (d ∷ ds) = value_from (n * 10 + (d - 48)) ds
 
 pub record Writes (n : ℕ) (field : List ℕ) : Type 0 where
   pub filled : 0 < length field
-  pub digits : All Digit field
+  pub digits : AllByRecursion Digit field
   pub value : n ≡ value_from 0 field
   pub fits : n ≤ most
 
@@ -41,8 +41,8 @@ pub record Writes (n : ℕ) (field : List ℕ) : Type 0 where
 -- n is the number before these digits.
 abbrev pub BlamedFrom : ℕ → Fault → List ℕ → Type 0
 BlamedFrom n NoDigits ds = length ds ≡ 0
-BlamedFrom n NoDigit ds = (k : ℕ) × (k < length ds) × All Digit (take k ds) × (value_from n (take k ds) ≤ most) × (Digit (slice_index ds k) → ⊥)
-BlamedFrom n TooLarge ds = (k : ℕ) × (k ≤ length ds) × All Digit (take k ds) × (most < value_from n (take k ds))
+BlamedFrom n NoDigit ds = (k : ℕ) × (k < length ds) × AllByRecursion Digit (take k ds) × (value_from n (take k ds) ≤ most) × (Digit (slice_index ds k) → ⊥)
+BlamedFrom n TooLarge ds = (k : ℕ) × (k ≤ length ds) × AllByRecursion Digit (take k ds) × (most < value_from n (take k ds))
 BlamedFrom n Missing ds = ⊥
 BlamedFrom n Extra ds = ⊥
 BlamedFrom n NoBytes ds = ⊥

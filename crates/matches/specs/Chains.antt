@@ -1,7 +1,7 @@
 -- All matches of a line, left to right. Assumes nothing.
 use Rattle.std.specs.Prelude.{◌≡◌, ℕ, ◌<◌, ◌≤◌, cond, ◌⊎◌, List, [], ◌∷◌, Some, None, Option, ◌≢◌, nat_le}
 use Rattle.std.specs.Str.{IsCharBoundary}
-use Rattle.std.specs.List.{AllByRecursion as All}
+use Rattle.std.specs.List.{AllByRecursion}
 use Rattle.matcher.specs.declared.answer.Span.{Span}
 use Rattle.matcher.specs.declared.answer.Region.{Region}
 use Rattle.matcher.specs.declared.answer.Answer.{Answer}
@@ -39,7 +39,7 @@ Ordered l (s ∷ (t ∷ ts)) = Within l s × Apart s t × Ordered l (t ∷ ts)
 
 -- q lies inside none of the spans
 abbrev pub Outside : ℕ → List Span → Type 0
-Outside q ss = All (λ (s : Span). (q ≤ s.begin) ⊎ (s.end ≤ q)) ss
+Outside q ss = AllByRecursion (λ (s : Span). (q ≤ s.begin) ⊎ (s.end ≤ q)) ss
 
 -- the first of the spans that begins at q or later
 abbrev pub first_from : ℕ → List Span → Option Span

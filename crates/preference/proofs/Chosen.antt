@@ -1,6 +1,6 @@
 -- The alternative that a match was found with. Assumes nothing.
 use Rattle.std.proofs.Common.{◌≡◌, ℕ, ◌+◌, List, [], ◌∷◌, ◌++◌, Some, None, Option, sym, refl, ap, ◌∙◌, arith}
-use Rattle.std.specs.List.{AllByRecursion as All}
+use Rattle.std.specs.List.{AllByRecursion}
 use Rattle.matcher.specs.declared.answer.Region.{Region}
 use Rattle.scan.specs.Earliest.{or_else}
 use Rattle.grammar.specs.Grammar.{Item}
@@ -17,7 +17,7 @@ pub record Chosen (l : List ℕ) (n : ℕ) (alts : List (List Item)) (p : ℕ) (
   pub way : Way
   pub ran : run l which p ≡ Some way
   pub is : r ≡ region_of (n + pairs_of earlier) which p way
-  pub none : All (λ (a : List Item). run l a p ≡ None) earlier
+  pub none : AllByRecursion (λ (a : List Item). run l a p ≡ None) earlier
 
 module _ (l : List ℕ) (p : ℕ) where
   chosen_here : (n : ℕ) (a : List Item) (more : List (List Item)) (r : Region) → (first_of l (n + pairs a) more p ≡ Some r → Chosen l (n + pairs a) more p r)
@@ -42,11 +42,11 @@ module _ (l : List ℕ) (p : ℕ) where
   chosen n [] r h = let z : ◌≡◌ {A = ℕ} 0 1 = cc in absurd (omega arith)
   chosen n (a ∷ more) r h = chosen_here n a more r (chosen (n + pairs a) more r) (run l a p) refl h
 
-  unchosen_here : (n : ℕ) (a : List Item) (more : List (List Item)) → (first_of l (n + pairs a) more p ≡ None → All (λ (b : List Item). run l b p ≡ None) more)
-      → (o : Option Way) → run l a p ≡ o → or_else (region_by n a p o) (first_of l (n + pairs a) more p) ≡ None → All (λ (b : List Item). run l b p ≡ None) (a ∷ more)
+  unchosen_here : (n : ℕ) (a : List Item) (more : List (List Item)) → (first_of l (n + pairs a) more p ≡ None → AllByRecursion (λ (b : List Item). run l b p ≡ None) more)
+      → (o : Option Way) → run l a p ≡ o → or_else (region_by n a p o) (first_of l (n + pairs a) more p) ≡ None → AllByRecursion (λ (b : List Item). run l b p ≡ None) (a ∷ more)
   unchosen_here n a more rest (Some w) e h = let z : ◌≡◌ {A = ℕ} 0 1 = cc in absurd (omega arith)
   unchosen_here n a more rest None e h = (e, rest h)
 
-  pub unchosen : (n : ℕ) (alts : List (List Item)) → first_of l n alts p ≡ None → All (λ (a : List Item). run l a p ≡ None) alts
+  pub unchosen : (n : ℕ) (alts : List (List Item)) → first_of l n alts p ≡ None → AllByRecursion (λ (a : List Item). run l a p ≡ None) alts
   unchosen n [] h = tt
   unchosen n (a ∷ more) h = unchosen_here n a more (unchosen (n + pairs a) more) (run l a p) refl h

@@ -1,12 +1,12 @@
 -- The alternatives are what the bars divide the items into. Assumes nothing.
 use Rattle.std.proofs.Common.{◌≡◌, false, List, [], ◌∷◌, refl, ap, ◌∙◌}
-use Rattle.std.specs.List.{AllByRecursion as All}
+use Rattle.std.specs.List.{AllByRecursion}
 use Rattle.grammar.specs.Grammar.{Item, takes, start, end, never, opens, closes, bar}
 use Rattle.ways.specs.Meaning.{is_bar, onto, alternatives}
 use Rattle.preference.specs.Found.{joined, Divided}
 
 abbrev Barless : List (List Item) → Type 0
-Barless alts = All (λ (a : List Item). All (λ (x : Item). is_bar x ≡ false) a) alts
+Barless alts = AllByRecursion (λ (a : List Item). AllByRecursion (λ (x : Item). is_bar x ≡ false) a) alts
 
 joined_onto : (x : Item) (alts : List (List Item)) → joined (onto x alts) ≡ x ∷ joined alts
 joined_onto x [] = refl

@@ -1,6 +1,6 @@
 -- What an answer says of the line. Assumes nothing.
 use Rattle.std.proofs.Common.{◌≡◌, ℕ, ◌+◌, List, [], ◌∷◌, Some, None, sym, ap, ◌∙◌, subst, arith}
-use Rattle.std.specs.List.{AllByRecursion as All}
+use Rattle.std.specs.List.{AllByRecursion}
 use Rattle.matcher.specs.declared.answer.Region.{Region}
 use Rattle.matcher.specs.declared.answer.Answer.{Answer}
 use Rattle.matcher.specs.declared.answer.Answer.TheVariants.{Nothing, Found, Refused}
@@ -27,7 +27,7 @@ legal e h = subst (Judged Legal e) h (judgement e)
 refused : (e : List ℕ) (n : ℕ) → refusal e ≡ Some n → Longest Legal e n
 refused e n h = subst (Judged Legal e) h (judgement e)
 
-no_ways : (l : List ℕ) (q : ℕ) (alts : List (List Item)) → All (λ (a : List Item). run l a q ≡ None) alts → NoWay alts l q
+no_ways : (l : List ℕ) (q : ℕ) (alts : List (List Item)) → AllByRecursion (λ (a : List Item). run l a q ≡ None) alts → NoWay alts l q
 no_ways l q [] h = tt
 no_ways l q (a ∷ more) h = (subst (Best (Fits l a q)) h.0 (preferred l a q), no_ways l q more h.1)
 

@@ -3,7 +3,7 @@
 -- which two of them differ. Assumes nothing.
 use Rattle.std.specs.Prelude.{◌≡◌, ℕ, ◌+◌, ◌<◌, ◌≤◌, false, List, [], ◌∷◌, ◌++◌, Some, IsUtf8}
 use Rattle.std.specs.Str.{IsCharBoundary}
-use Rattle.std.specs.List.{AllByRecursion as All}
+use Rattle.std.specs.List.{AllByRecursion}
 use Rattle.matcher.specs.declared.answer.Region.{Region}
 use Rattle.matcher.specs.declared.answer.Answer.{Answer}
 use Rattle.matcher.specs.declared.answer.Answer.TheVariants.{Nothing, Found, Refused}
@@ -21,7 +21,7 @@ Spells is e = Good 0 0 is × (written is ≡ e)
 
 -- none of the alternatives has a way from q
 abbrev pub NoWay : List (List Item) → List ℕ → ℕ → Type 0
-NoWay alts l q = All (λ (a : List Item). (w : Way) → Fits l a q w → ⊥) alts
+NoWay alts l q = AllByRecursion (λ (a : List Item). (w : Way) → Fits l a q w → ⊥) alts
 
 -- the alternatives, with a bar between each and the next
 abbrev pub joined : List (List Item) → List Item
@@ -31,7 +31,7 @@ joined (a ∷ b ∷ more) = a ++ bar ∷ joined (b ∷ more)
 
 -- the items are divided into alternatives by their bars
 abbrev pub Divided : List Item → List (List Item) → Type 0
-Divided is alts = (joined alts ≡ is) × All (λ (a : List Item). All (λ (x : Item). is_bar x ≡ false) a) alts
+Divided is alts = (joined alts ≡ is) × AllByRecursion (λ (a : List Item). AllByRecursion (λ (x : Item). is_bar x ≡ false) a) alts
 
 -- how many brackets the alternatives open
 abbrev pub pairs_of : List (List Item) → ℕ

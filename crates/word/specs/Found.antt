@@ -3,7 +3,7 @@ use Rattle.std.specs.Prelude.{◌≡◌, ℕ, suc, ◌+◌, ◌<◌, ◌≤◌, 
 use Rattle.std.proofs.Math.Utf8.{encode}
 use Rattle.std.specs.Char.{to_ascii_lowercase}
 use Rattle.std.specs.Str.{IsCharBoundary}
-use Rattle.std.specs.List.{AllByRecursion as All}
+use Rattle.std.specs.List.{AllByRecursion}
 use Rattle.matcher.specs.declared.answer.Region.{Region}
 use Rattle.matcher.specs.declared.answer.Answer.{Answer}
 use Rattle.matcher.specs.declared.answer.Answer.TheVariants.{Nothing, Found, Refused}
@@ -32,7 +32,7 @@ pub record Counts (w : Word) (l : List ℕ) (begin end : ℕ) : Type 0 where
 
 -- none of the words counts from `begin`
 abbrev pub NoneCounts : List Word → List ℕ → ℕ → Type 0
-NoneCounts ws l begin = All (λ (w : Word). (end : ℕ) → Counts w l begin end → ⊥) ws
+NoneCounts ws l begin = AllByRecursion (λ (w : Word). (end : ℕ) → Counts w l begin end → ⊥) ws
 
 -- the region is the earliest word that counts from p on and, of those that begin there, the first in the expression
 pub record First (x : Expression) (l : List ℕ) (p : ℕ) (r : Region) : Type 0 where

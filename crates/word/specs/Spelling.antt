@@ -2,7 +2,7 @@
 use Rattle.std.specs.Prelude.{◌≡◌, ℕ, ◌+◌, ◌/◌, ◌<◌, ◌≤◌, Bool, true, false, cond, ◌⊎◌, List, [], ◌∷◌, ◌++◌, map, Some, None, Option, ◌==◌, ◌≢◌, refl}
 use Rattle.std.proofs.Common.{sym, ap, subst, ◌∙◌, inl, inr, ⊎_elim, arith}
 use Rattle.std.proofs.Math.Utf8.{scalar, encode, next}
-use Rattle.std.specs.List.{AllByRecursion as All}
+use Rattle.std.specs.List.{AllByRecursion}
 use Rattle.std.proofs.lemmas.List.{append-nil, append_assoc}
 use Rattle.std.proofs.lemmas.Bool.{cond-true, cond-false, ne_eqb, cases_lt}
 use Rattle.std.proofs.lemmas.Bool.Decides.{nat_tests}
@@ -39,15 +39,15 @@ onto_first (x ∷ xs) w ws = ap (onto x) (onto_first xs w ws)
 read_byte : (b : ℕ) (bs : List ℕ) → (b ≢ 92) → (b ≢ 124) → read_from false (b ∷ bs) ≡ onto (Some b) (read_from false bs)
 read_byte b bs m n = cond-false (b == 92) _ _ (ne_eqb b 92 m) ∙ cond-false (b == 124) _ _ (ne_eqb b 124 n)
 
-read_high : (xs bs : List ℕ) → All (λ x. 128 ≤ x) xs → read_from false (xs ++ bs) ≡ onto_all (map Some xs) (read_from false bs)
+read_high : (xs bs : List ℕ) → AllByRecursion (λ x. 128 ≤ x) xs → read_from false (xs ++ bs) ≡ onto_all (map Some xs) (read_from false bs)
 read_high [] bs h = refl
 read_high (x ∷ xs) bs h = read_byte x (xs ++ bs) (λ e. omega (arith, h.0)) (λ e. omega (arith, h.0)) ∙ ap (onto (Some x)) (read_high xs bs h.1)
 
-pub encode_high : (c : ℕ) → 128 ≤ c → All (λ x. 128 ≤ x) (encode c)
+pub encode_high : (c : ℕ) → 128 ≤ c → AllByRecursion (λ x. 128 ≤ x) (encode c)
 encode_high c h =
-    ⊎_elim (λ a. subst (All (λ x. 128 ≤ x)) (sym (two c h a)) (omega arith, (omega arith, tt)))
-    (λ a. ⊎_elim (λ b. subst (All (λ x. 128 ≤ x)) (sym (three c a b)) (omega arith, (omega arith, (omega arith, tt))))
-    (λ b. subst (All (λ x. 128 ≤ x)) (sym (four c b)) (omega arith, (omega arith, (omega arith, (omega arith, tt))))) (cases_lt c 65536)) (cases_lt c 2048)
+    ⊎_elim (λ a. subst (AllByRecursion (λ x. 128 ≤ x)) (sym (two c h a)) (omega arith, (omega arith, tt)))
+    (λ a. ⊎_elim (λ b. subst (AllByRecursion (λ x. 128 ≤ x)) (sym (three c a b)) (omega arith, (omega arith, (omega arith, tt))))
+    (λ b. subst (AllByRecursion (λ x. 128 ≤ x)) (sym (four c b)) (omega arith, (omega arith, (omega arith, (omega arith, tt))))) (cases_lt c 65536)) (cases_lt c 2048)
 
 mark_digit : (c : ℕ) → mark c ≡ true → digit c ≡ false
 mark_digit c h = grind (arith, nat_tests)

@@ -4,7 +4,7 @@ use Rattle.std.proofs.Common.{sym, ap, subst, ◌∙◌, inl, inr, ⊎_elim, ari
 use Rattle.std.proofs.Math.Utf8.{encode}
 use Rattle.std.specs.Char.{to_ascii_lowercase, len_utf8}
 use Rattle.std.specs.Str.{IsCharBoundary}
-use Rattle.std.specs.List.{AllByRecursion as All}
+use Rattle.std.specs.List.{AllByRecursion}
 use Rattle.std.proofs.lemmas.List.{map-append, length-map, length-append, length-drop, get_or-drop, at_drop_more, at_drop_all}
 use Rattle.std.proofs.lemmas.Bool.{and_parts, and_from, or_cases, or_left, or_right, not-true, not_from_false, eqb-true, eq-eqb, leb-true, le-leb, cases_lt, false≢true}
 use Rattle.std.proofs.lemmas.Str.{IsCharBoundary-after_ascii, IsCharBoundary-past_char, drop_past_char, IsUtf8-drop, length-encode}
@@ -123,7 +123,7 @@ low_same c b h e = let s = eqb-true (to_ascii_lowercase c) (to_ascii_lowercase b
 high_same : (c b : ℕ) → 128 ≤ c → same_letter c b ≡ true → b ≡ c
 high_same c b h e = let s = eqb-true (to_ascii_lowercase c) (to_ascii_lowercase b) e in grind (arith, nat_tests)
 
-exact : (xs : List ℕ) (w : Letters) (bs : List ℕ) → All (λ x. 128 ≤ x) xs → stands (map Some xs ++ w) bs ≡ true → (rest : List ℕ) × (bs ≡ xs ++ rest) × (stands w rest ≡ true)
+exact : (xs : List ℕ) (w : Letters) (bs : List ℕ) → AllByRecursion (λ x. 128 ≤ x) xs → stands (map Some xs ++ w) bs ≡ true → (rest : List ℕ) × (bs ≡ xs ++ rest) × (stands w rest ≡ true)
 exact [] w bs h e = (bs, refl, e)
 exact (x ∷ xs) w bs h e =
     let f = stands_first x (map Some xs ++ w) bs e in

@@ -2,7 +2,7 @@
 use Rattle.std.specs.Prelude.{◌≡◌, ℕ, zero, suc, ◌+◌, ◌<◌, ◌≤◌, Bool, true, false, cond, ◌&&◌, List, [], ◌∷◌, ◌++◌, map, length, drop, replicate, Some, None, IsUtf8, Option, slice_index_or, refl}
 use Rattle.std.proofs.Common.{sym, ap, subst, ◌∙◌, arith}
 use Rattle.std.specs.Str.{IsCharBoundary}
-use Rattle.std.specs.List.{AllByRecursion as All}
+use Rattle.std.specs.List.{AllByRecursion}
 use Rattle.std.proofs.lemmas.Bool.{and_parts}
 use Rattle.matcher.specs.declared.answer.Span.{Span}
 use Rattle.matcher.specs.declared.answer.Region.{Region}
@@ -35,7 +35,7 @@ record Split (ws : List Word) (l : List ℕ) (b : ℕ) (r : Region) : Type 0 whe
   pub among : ws ≡ earlier ++ which ∷ later
   pub is : r ≡ spanning b (b + length (spelled_word which))
   pub here : counts (spelled_word which) l b ≡ true
-  pub none : All (λ (w : Word). counts (spelled_word w) l b ≡ false) earlier
+  pub none : AllByRecursion (λ (w : Word). counts (spelled_word w) l b ≡ false) earlier
 
 module _ (l : List ℕ) (b : ℕ) where
   split_here : (w : Word) (ws : List Word) (r : Region) → (first_of (map spelled_word ws) l b ≡ Some r → Split ws l b r) → (t : Bool) → counts (spelled_word w) l b ≡ t
@@ -49,16 +49,16 @@ module _ (l : List ℕ) (b : ℕ) where
   split [] r h = let z : ◌≡◌ {A = ℕ} 0 1 = cc in absurd (omega arith)
   split (w ∷ ws) r h = split_here w ws r (split ws r) (counts (spelled_word w) l b) refl h
 
-  none_here : (w : Word) (ws : List Word) → (first_of (map spelled_word ws) l b ≡ None → All (λ (w : Word). counts (spelled_word w) l b ≡ false) ws) → (t : Bool) → counts (spelled_word w) l b ≡ t
-      → cond t (Some (spanning b (b + length (spelled_word w)))) (first_of (map spelled_word ws) l b) ≡ None → All (λ (w : Word). counts (spelled_word w) l b ≡ false) (w ∷ ws)
+  none_here : (w : Word) (ws : List Word) → (first_of (map spelled_word ws) l b ≡ None → AllByRecursion (λ (w : Word). counts (spelled_word w) l b ≡ false) ws) → (t : Bool) → counts (spelled_word w) l b ≡ t
+      → cond t (Some (spanning b (b + length (spelled_word w)))) (first_of (map spelled_word ws) l b) ≡ None → AllByRecursion (λ (w : Word). counts (spelled_word w) l b ≡ false) (w ∷ ws)
   none_here w ws more true e h = let z : ◌≡◌ {A = ℕ} 0 1 = cc in absurd (omega arith)
   none_here w ws more false e h = (e, more h)
 
-  none_count : (ws : List Word) → first_of (map spelled_word ws) l b ≡ None → All (λ (w : Word). counts (spelled_word w) l b ≡ false) ws
+  none_count : (ws : List Word) → first_of (map spelled_word ws) l b ≡ None → AllByRecursion (λ (w : Word). counts (spelled_word w) l b ≡ false) ws
   none_count [] h = tt
   none_count (w ∷ ws) h = none_here w ws (none_count ws) (counts (spelled_word w) l b) refl h
 
-  all_uncounted : (ws : List Word) → All (λ (w : Word). counts (spelled_word w) l b ≡ false) ws → NoneCounts ws l b
+  all_uncounted : (ws : List Word) → AllByRecursion (λ (w : Word). counts (spelled_word w) l b ≡ false) ws → NoneCounts ws l b
   all_uncounted [] h = tt
   all_uncounted (w ∷ ws) h = (uncounted w l b h.0, all_uncounted ws h.1)
 
