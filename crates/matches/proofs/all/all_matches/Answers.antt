@@ -26,7 +26,7 @@ loop-place-preserved g c =
     let means = g.M.Matcher.means c.args.matcher.now in
     let spans = vec_items c.loop-place.spans in
     let found = c.in-Next.found in
-    let pushed : spans ++ found.span ∷ [] ≡ vec_items c.push.new.self = sym c.in_ok-push.ensures.items in
+    let pushed : spans ++ found.span ∷ [] ≡ vec_items c.push.new.self = sym c.in_ok-push-in-Next.ensures.items in
     subst (λ (listed : List Span). Follows means c.args.expression.now c.args.line.now listed found.next) pushed
     (follows_more means c.args.expression.now c.args.line.now spans c.in-Some.at found
     (sym c.in-Next.is ∙ c.next_match.ensures.means)
@@ -41,8 +41,8 @@ returns g c =
     (follows_end means c.args.expression.now c.args.line.now (vec_items c.loop-place.spans) None tt
     (subst (Follows means c.args.expression.now c.args.line.now (vec_items c.loop-place.spans)) c.in_default.is c.loop-place.invariant))
 
-pub returns-in_err-push : goal.returns-in_err-push
-returns-in_err-push g c =
+pub returns-in_err-push-in-Next : goal.returns-in_err-push-in-Next
+returns-in_err-push-in-Next g c =
     let p = err_from_is_err_and c.from_residual.result c.from_residual.ensures.1 in
     rw (p.1, p.2)
     (legal (g.M.Matcher.means c.args.matcher.now) (g.met.M.Matcher.lawful c.args.matcher.now) c.args.expression.now c.args.line.now c.in-Some.at c.in-Next.found
