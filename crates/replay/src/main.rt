@@ -14,6 +14,7 @@ mod records;
 use crate::answers::answer_all;
 use std::io;
 use std::io::{BufWriter, Read, Write};
+use std::process::ExitCode;
 
 fn run(rt: &HostRuntime) -> io::Result<()> {
     let mut cases = Vec::new(rt.alloc());
@@ -23,10 +24,12 @@ fn run(rt: &HostRuntime) -> io::Result<()> {
     out.flush()
 }
 
-fn main(rt: HostRuntime) -> io::Result<()> {
-    let result = run(&rt);
-    if let Err(error) = &result {
-        let _ = eprintln!(rt; "replay: {error}");
+fn main(rt: HostRuntime) -> ExitCode {
+    match run(&rt) {
+        Ok(()) => ExitCode::SUCCESS,
+        Err(error) => {
+            let _ = eprintln!(rt; "replay: {error}");
+            ExitCode::FAILURE
+        }
     }
-    result
 }

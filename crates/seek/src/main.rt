@@ -21,6 +21,7 @@ use matcher::Matcher;
 use matches::step::{Step, next_match};
 use std::env;
 use std::io::{BufWriter, Read, Write};
+use std::process::ExitCode;
 use word::WordMatcher;
 
 const USAGE: &str = "usage: seek word|expression EXPRESSION < SHEET\n";
@@ -64,10 +65,10 @@ fn run(rt: &HostRuntime) -> Result<(), Trouble> {
     }
 }
 
-fn main(rt: HostRuntime) -> Result<(), Trouble> {
-    let result = run(&rt);
-    match &result {
-        Ok(()) | Err(Trouble::Refused) => {}
+fn main(rt: HostRuntime) -> ExitCode {
+    match run(&rt) {
+        Ok(()) => return ExitCode::SUCCESS,
+        Err(Trouble::Refused) => {}
         Err(Trouble::Usage) => {
             let _ = eprint!(rt; "{USAGE}");
         }
@@ -75,5 +76,5 @@ fn main(rt: HostRuntime) -> Result<(), Trouble> {
             let _ = eprintln!(rt; "seek: {error}");
         }
     }
-    result
+    ExitCode::FAILURE
 }
