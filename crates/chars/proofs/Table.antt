@@ -2,10 +2,9 @@
 -- Assumes nothing.
 use Rattle.std.proofs.Common.{◌≡◌, ℕ, zero, suc, ◌+◌, ◌<◌, Bool, true, false, ◌&&◌, List, [], ◌∷◌, length, get_or, sym, refl, ◌∙◌, subst, le_of_suc-le-suc, not-suc-le-zero, add-zero, add-suc, suc-add, zero-add, arith}
 use Rattle.std.proofs.lemmas.Bool.{and_parts}
-use Rattle.std.proofs.lemmas.Bool.Decides.{nat_tests}
 use Rattle.chars.specs.declared.sets.Sort.{Sort}
 use Rattle.chars.specs.declared.sets.Sort.TheVariants.{Digit, Letter, Space, Other}
-use Rattle.chars.specs.Sets.{digit, word, space, sort_of}
+use Rattle.chars.specs.Sets.{sort_of}
 
 abbrev same : Sort → Sort → Bool
 same Digit Digit = true

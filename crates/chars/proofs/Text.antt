@@ -1,5 +1,5 @@
 -- The tests of text and of its edges decide what std says of them. Assumes nothing.
-use Rattle.std.proofs.Common.{◌≡◌, ℕ, ◌<◌, ◌≤◌, Bool, true, false, ◌&&◌, ◌||◌, eqb, ltb, leb, ◌⊎◌, List, [], ◌∷◌, length, get_or, is_ok, Ok, Err, IsUtf8, Decides, Result, sym, refl, subst, ⊎_elim, arith, MatchResult}
+use Rattle.std.proofs.Common.{◌≡◌, ℕ, true, ◌||◌, eqb, ltb, leb, List, [], ◌∷◌, length, get_or, is_ok, Ok, Err, IsUtf8, Decides, Result, sym, refl, subst, ⊎_elim, arith, MatchResult}
 use lib.Utf8.{scalars, encodes}
 use Rattle.std.specs.Str.{IsCharBoundary, chars}
 use Rattle.std.proofs.lemmas.Str.{encodes-chars, scalars-chars}

@@ -1,5 +1,5 @@
 -- The characters that need a backslash to stand for themselves. Assumes nothing.
-use Rattle.std.specs.Prelude.{ℕ, Bool, true, false, not, ◌&&◌, ◌||◌, List, [], ◌∷◌, codes, ◌==◌, nat_lt}
+use Rattle.std.specs.Prelude.{ℕ, Bool, false, not, ◌&&◌, ◌||◌, List, [], ◌∷◌, codes, ◌==◌, nat_lt}
 
 abbrev pub among : List ℕ → ℕ → Bool
 among [] c = false

@@ -2,6 +2,7 @@
 //
 // The expected answers are worked out by hand from the rules in docs/RULES.md.
 #![tactic(auto)]
+
 #[cfg(test)]
 mod tests {
     use chars::edges::{is_edge, is_text, next_edge};

@@ -1,8 +1,7 @@
 -- The groups of a match, laid bracket by bracket. Assumes nothing.
-use Rattle.std.proofs.Common.{◌≡◌, ℕ, zero, suc, ◌+◌, ◌-◌, ◌<◌, ◌≤◌, Bool, true, false, cond, ◌≢◌, List, [], ◌∷◌, ◌++◌, length, get_or, drop, set, Some, None, Option, sym, refl, ap, ◌∙◌, subst, add-one, arith}
+use Rattle.std.proofs.Common.{◌≡◌, ℕ, zero, suc, ◌+◌, ◌-◌, ◌<◌, ◌≤◌, Bool, true, false, cond, ◌≢◌, List, [], ◌∷◌, length, get_or, drop, set, Some, Option, sym, refl, ap, ◌∙◌, subst, add-one, arith}
 use Rattle.std.proofs.lemmas.List.{get_or-set_same, get_or-set_other, drop-drop, get_or-drop}
 use Rattle.matcher.specs.declared.answer.Span.{Span}
-use Rattle.matcher.specs.declared.answer.Region.{Region}
 use Rattle.matcher.specs.Regions.{span}
 use Rattle.grammar.specs.declared.items.Item.{Item}
 use Rattle.grammar.specs.declared.items.Item.TheVariants as tok
@@ -10,12 +9,12 @@ use Rattle.grammar.specs.Grammar as g
 use Rattle.grammar.specs.Items.{token_of, Reads}
 use Rattle.ways.specs.declared.start.Start.{Start}
 use Rattle.ways.specs.Match.{Way}
-use Rattle.ways.specs.Groups.{Laying, begin_of, closing_on, lay, laid}
+use Rattle.ways.specs.Groups.{Laying, lay, laid}
 use Rattle.ways.specs.Meaning.{is_bar, leading}
 use Rattle.ways.specs.Starts.{Begins}
 use Rattle.ways.proofs.Reading.{First, none_written, seen_as}
 use Rattle.ways.proofs.Starts.{Passed, begun, read, at_open, at_other}
-use Rattle.tries.specs.Tried.{is_bracket, brackets, Marked}
+use Rattle.tries.specs.Tried.{is_bracket, brackets}
 use Rattle.expression.specs.Layout.{closed_at, Noting}
 
 -- the numbers of d open brackets, the innermost first

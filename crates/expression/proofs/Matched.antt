@@ -1,5 +1,5 @@
 -- From the tries of an alternative to the match of an expression. Assumes nothing.
-use Rattle.std.proofs.Common.{◌≡◌, ℕ, zero, suc, ◌+◌, ◌-◌, ◌*◌, ◌<◌, ◌≤◌, Bool, true, false, cond, List, [], ◌∷◌, length, drop, Some, None, Option, sym, refl, ap, ◌∙◌, subst, arith}
+use Rattle.std.proofs.Common.{◌≡◌, ℕ, suc, ◌+◌, ◌-◌, ◌*◌, ◌<◌, ◌≤◌, List, [], ◌∷◌, length, Some, None, Option, sym, refl, ap, ◌∙◌, subst, arith}
 use Rattle.matcher.specs.declared.answer.Region.{Region}
 use Rattle.scan.specs.Earliest.{or_else, at_edges, earliest_from}
 use Rattle.scan.proofs.Turns.{seek_here, seek_on, seek_end}
@@ -10,12 +10,12 @@ use Rattle.grammar.proofs.Judging.{spelled}
 use Rattle.ways.specs.declared.start.Start.{Start}
 use Rattle.ways.specs.Match.{Way, run}
 use Rattle.ways.specs.Ways.{Fits, Best}
-use Rattle.ways.specs.Meaning.{is_bar, leading, alternatives, pairs, region_by, region_of, first_of, at}
-use Rattle.ways.specs.Starts.{Begins, After, Onward}
+use Rattle.ways.specs.Meaning.{leading, alternatives, pairs, region_by, first_of, at}
+use Rattle.ways.specs.Starts.{Begins, After}
 use Rattle.ways.proofs.Prefers.{preferred}
 use Rattle.tries.specs.declared.run.Limit.{Limit}
 use Rattle.tries.specs.declared.run.Outcome.TheVariants.{Matched}
-use Rattle.tries.specs.Tried.{is_bracket, brackets, Marked, Result}
+use Rattle.tries.specs.Tried.{Result}
 use Rattle.expression.specs.Layout.{Noting, Regional}
 use Rattle.expression.specs.declared.attempts.Verdict.{Verdict}
 use Rattle.expression.specs.declared.attempts.Verdict.TheVariants.{Found, Nothing, Exhausted}

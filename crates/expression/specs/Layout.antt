@@ -6,7 +6,7 @@ use Rattle.matcher.specs.declared.answer.Region.{Region}
 use Rattle.grammar.specs.Grammar as g
 use Rattle.ways.specs.declared.start.Start.{Start}
 use Rattle.ways.specs.Match.{Way}
-use Rattle.ways.specs.Groups.{Laying, begin_of, laid}
+use Rattle.ways.specs.Groups.{begin_of, laid}
 use Rattle.ways.specs.Meaning.{leading, end_of, region_of}
 use Rattle.ways.specs.Starts.{Begins}
 use Rattle.tries.specs.Tried.{brackets, Marked}

@@ -10,6 +10,7 @@
 // as the line times the expression has bytes. Expressions and lines may have any length; where there is no memory for the table
 // the search goes on without, and answers the same.
 #![tactic(auto)]
+
 mod attempts;
 mod groups;
 pub mod search;

@@ -1,5 +1,5 @@
 -- From what may follow before a byte on to what may follow after it. Assumes nothing.
-use Rattle.std.proofs.Common.{◌≡◌, ℕ, zero, suc, ◌+◌, ◌-◌, ◌<◌, ◌≤◌, Bool, true, false, cond, ◌&&◌, eqb, ltb, leb, List, [], ◌∷◌, ◌++◌, Some, None, Option, sym, refl, ap, ◌∙◌, subst, inl, inr, arith}
+use Rattle.std.proofs.Common.{◌≡◌, ℕ, zero, suc, ◌<◌, ◌≤◌, Bool, true, false, cond, ◌&&◌, eqb, ltb, leb, List, [], ◌∷◌, ◌++◌, Some, None, Option, sym, refl, ap, ◌∙◌, subst, inl, inr, arith}
 use lib.Utf8.{encode}
 use Rattle.std.proofs.lemmas.Bool.{cond-true, cond-false, eq-eqb, ne_eqb, lt-ltb, le-leb, and_from}
 use Rattle.chars.specs.declared.leads.Owed.{Owed}
@@ -12,7 +12,6 @@ use Rattle.grammar.specs.declared.bytes.Kind.{Kind}
 use Rattle.grammar.specs.declared.bytes.Kind.TheVariants as k
 use Rattle.grammar.specs.declared.bytes.Inside.{Inside}
 use Rattle.grammar.specs.declared.bytes.Inside.TheVariants as i
-use Rattle.grammar.specs.declared.bytes.Escaped.TheVariants as e
 use Rattle.grammar.specs.declared.reader.Mode.{Mode}
 use Rattle.grammar.specs.declared.reader.Mode.TheVariants.{Plain, Escape, Owing, ClassOpen, ClassFirst, Class, ClassLast, ClassEscape, Range, RangeEscape}
 use Rattle.grammar.specs.declared.reader.State.{State}

@@ -14,6 +14,7 @@
 // if not, how much of it some legal expression shares. `items` reads one item after the other from the bytes of a legal
 // expression, and `class` asks a class whether it takes a character. Nothing is allocated, and any length is read.
 #![tactic(auto)]
+
 mod bytes;
 pub mod class;
 pub mod examples;

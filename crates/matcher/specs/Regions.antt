@@ -1,5 +1,5 @@
 -- Regions and their groups. Assumes nothing.
-use Rattle.std.specs.Prelude.{ℕ, List, replicate, Some, None, Option, slice_index_or, slice_set}
+use Rattle.std.specs.Prelude.{ℕ, replicate, Some, None, Option, slice_index_or, slice_set}
 use Rattle.matcher.specs.declared.answer.Span.{Span}
 use Rattle.matcher.specs.declared.answer.Region.{Region}
 

@@ -1,5 +1,5 @@
 -- The list of all matches, from the laws of a matcher. Assumes nothing.
-use Rattle.std.proofs.Common.{◌≡◌, ℕ, suc, ◌-◌, ◌<◌, ◌≤◌, true, false, cond, eqb, leb, ◌⊎◌, List, [], ◌∷◌, ◌++◌, length, Some, None, IsUtf8, Option, sym, refl, ap, ◌∙◌, subst, ⊎_elim, append_assoc, append-nil, le_refl, arith, eq-eqb, ne_eqb, le-leb}
+use Rattle.std.proofs.Common.{◌≡◌, ℕ, suc, ◌-◌, ◌<◌, ◌≤◌, eqb, leb, ◌⊎◌, List, [], ◌∷◌, ◌++◌, length, Some, None, IsUtf8, Option, sym, refl, ap, ◌∙◌, subst, ⊎_elim, append_assoc, append-nil, le_refl, arith, eq-eqb, ne_eqb, le-leb}
 use Rattle.std.specs.Str.{IsCharBoundary}
 use Rattle.std.proofs.lemmas.Bool.{cond-true, cond-false, cases_eq, cases_lt}
 use Rattle.std.proofs.lemmas.Str.{IsCharBoundary-start}
@@ -10,11 +10,10 @@ use Rattle.matcher.specs.declared.answer.Region.{Region}
 use Rattle.matcher.specs.declared.answer.Answer.{Answer}
 use Rattle.matcher.specs.declared.answer.Answer.TheVariants.{Nothing, Found, Refused}
 use Rattle.matcher.specs.Regions.{group}
-use Rattle.matcher.specs.Laws.{Meaning, Lawful, Within, Proper}
+use Rattle.matcher.specs.Laws.{Meaning, Lawful, Within}
 use Rattle.matches.specs.declared.step.Match.{Match}
-use Rattle.matches.specs.declared.step.Step.{Step}
 use Rattle.matches.specs.declared.step.Step.TheVariants.{NoMore, Next, Refused as RefusedAt}
-use Rattle.matches.specs.Steps.{edge_from, go_on, GoesOn, taken, stepped, Further}
+use Rattle.matches.specs.Steps.{go_on, GoesOn, taken, stepped, Further}
 use Rattle.matches.specs.Chains.{steps, Chain, Apart, Ordered, Outside, first_from, Finds, Matches}
 use Rattle.matches.proofs.Edges.{edge_next}
 

@@ -1,5 +1,5 @@
 -- One step from match to match. Assumes nothing.
-use Rattle.std.specs.Prelude.{◌≡◌, ℕ, zero, suc, ◌-◌, ◌<◌, ◌≤◌, cond, List, length, Some, None, Option, ◌==◌, ◌≢◌}
+use Rattle.std.specs.Prelude.{◌≡◌, ℕ, zero, suc, ◌-◌, ◌≤◌, cond, List, length, Some, None, Option, ◌==◌, ◌≢◌}
 use Rattle.std.specs.Str.{IsCharBoundary}
 use Rattle.chars.specs.Edges.{edge, NextEdge}
 use Rattle.matcher.specs.declared.answer.Span.{Span}

@@ -4,5 +4,6 @@
 // an empty match it goes on at the next character, so that the same place is never found twice, and past the line's end it is done.
 // `step` takes one step and `all` takes them all; specs/Chains says what the list of them is.
 #![tactic(auto)]
+
 pub mod all;
 pub mod step;

@@ -5,6 +5,7 @@
 // functions here compute nothing: their contracts say that the meaning answers what is told, and nothing else, and that it obeys the
 // laws of a matcher.
 #![tactic(auto)]
+
 ghost use Rattle.std.specs.Prelude.{◌≡◌, ℕ, true, List};
 ghost use Rattle.matcher.specs.declared.answer.Answer.{Answer};
 ghost use Rattle.matcher.specs.Laws.{Lawful};

@@ -7,6 +7,7 @@
 // expected answer, is passed over. Of a record that is not answered here, or is not written as it should be, one line that
 // begins with `?` says which and why, and reading goes on.
 #![tactic(auto)]
+
 mod answers;
 mod mistake;
 mod records;

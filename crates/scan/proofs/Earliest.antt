@@ -1,15 +1,14 @@
 -- A matcher that takes the first edge at which its expression matches obeys the laws. Assumes nothing.
-use Rattle.std.proofs.Common.{◌≡◌, ℕ, zero, suc, ◌+◌, ◌-◌, ◌<◌, ◌≤◌, Bool, true, false, cond, ◌&&◌, ◌⊎◌, List, [], ◌∷◌, length, Some, None, IsUtf8, Option, sym, refl, ap, ◌∙◌, subst, inl, inr, ⊎_elim, arith}
+use Rattle.std.proofs.Common.{◌≡◌, ℕ, zero, suc, ◌+◌, ◌-◌, ◌<◌, ◌≤◌, Bool, true, false, cond, ◌&&◌, List, length, Some, None, IsUtf8, Option, sym, refl, ap, ◌∙◌, ⊎_elim, arith}
 use Rattle.std.specs.Str.{IsCharBoundary}
 use Rattle.std.proofs.lemmas.Bool.{and_parts, and_from, cond-true, cond-false, cases_Bool, cases_eq}
 use Rattle.chars.specs.Edges.{text, edge}
 use Rattle.chars.proofs.Text.{text_tells, edge_tells}
 use Rattle.matcher.specs.declared.answer.Span.{Span}
 use Rattle.matcher.specs.declared.answer.Region.{Region}
-use Rattle.matcher.specs.declared.answer.Answer.{Answer}
 use Rattle.matcher.specs.declared.answer.Answer.TheVariants.{Nothing, Found, Refused}
 use Rattle.matcher.specs.Regions.{group, span}
-use Rattle.matcher.specs.Laws.{Meaning, Lawful, Proper, Within}
+use Rattle.matcher.specs.Laws.{Lawful}
 use Rattle.scan.specs.Earliest.{or_else, seek, at_edges, earliest_from, answer, unless_refused, earliest, Placed}
 
 -- where a search that found r stopped

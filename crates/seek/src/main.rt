@@ -9,6 +9,7 @@
 // which no expression goes on, and no input is read. After a refusal, and where the arguments are wrong or reading or writing
 // fails, the status is 1.
 #![tactic(auto)]
+
 mod caret;
 mod lines;
 mod trouble;

@@ -11,7 +11,7 @@ use Rattle.grammar.specs.Grammar as g
 use Rattle.grammar.specs.Items.{Reads}
 use Rattle.grammar.specs.Parse.{items}
 use Rattle.ways.specs.declared.start.Start.{Start}
-use Rattle.ways.specs.Match.{Way, step, at_end, then, else, when, from, most, run}
+use Rattle.ways.specs.Match.{Way, at_end, then, else, when, from, run}
 use Rattle.ways.specs.Meaning.{is_bar, leading}
 use Rattle.ways.specs.Pieces.{PieceAt, Steps}
 use Rattle.ways.specs.Starts.{Begins}

@@ -7,6 +7,7 @@
 // matches. One table serves all alternatives and all begins of matches in its line. Nothing recurses, so that expressions and
 // lines may have any length; the table takes as many bytes as there are cells, and `fill` says so where there is no memory.
 #![tactic(auto)]
+
 mod cell;
 pub mod fill;
 mod row;

@@ -1,24 +1,20 @@
 -- What the tries of an alternative come to, one item on. Assumes nothing.
-use Rattle.std.proofs.Common.{◌≡◌, ℕ, zero, suc, ◌+◌, ◌-◌, ◌*◌, ◌<◌, ◌≤◌, Bool, true, false, cond, eqb, ◌⊎◌, List, [], ◌∷◌, ◌++◌, length, get_or, drop, Some, None, Option, sym, refl, ap, ◌∙◌, subst, inl, inr, ⊎_elim, le_of_suc-le-suc, add-zero, mul-le-mul_right, suc-mul, arith}
-use lib.Utf8.{encode}
-use Rattle.std.proofs.lemmas.List.{drop_all, length-append, length-drop}
-use Rattle.std.proofs.lemmas.Str.{length-encode, len_utf8_bounds}
+use Rattle.std.proofs.Common.{◌≡◌, ℕ, zero, suc, ◌+◌, ◌-◌, ◌*◌, ◌<◌, ◌≤◌, Bool, true, false, cond, eqb, List, [], ◌∷◌, length, get_or, Some, None, Option, sym, refl, ap, ◌∙◌, subst, ⊎_elim, add-zero, mul-le-mul_right, suc-mul, arith}
 use Rattle.grammar.specs.declared.items.Piece.{Piece}
 use Rattle.grammar.specs.declared.items.Times.{Times}
 use Rattle.grammar.specs.declared.items.Times.TheVariants as u
 use Rattle.grammar.specs.declared.items.Item.{Item}
 use Rattle.grammar.specs.declared.items.Item.TheVariants as tok
 use Rattle.grammar.specs.Grammar as g
-use Rattle.grammar.specs.Items.{piece_of, times_of, token_of, Reads}
+use Rattle.grammar.specs.Items.{Reads}
 use Rattle.tries.specs.declared.run.Limit.{Limit}
-use Rattle.tries.specs.declared.run.Limit.TheVariants.{Unlimited, Deep}
+use Rattle.tries.specs.declared.run.Limit.TheVariants.{Unlimited}
 use Rattle.tries.specs.declared.run.Outcome.{Outcome}
 use Rattle.tries.specs.declared.run.Outcome.TheVariants.{Matched, Failed, Exhausted}
-use Rattle.ways.specs.Match.{Way, step, at_end, then, else, when, from, most, taken, run}
+use Rattle.ways.specs.Match.{Way, step, at_end, then, else, when, from, most, run}
 use Rattle.ways.specs.Meaning.{is_bar, leading, end_of}
-use Rattle.ways.specs.Reading.{WrittenAt}
 use Rattle.ways.specs.Pieces.{PieceAt, Steps}
-use Rattle.tries.specs.Tried.{holds_at, is_bracket, brackets, Marked, Below, Noted, Ran, Result, Tried, TriedTimes, TriedMost}
+use Rattle.tries.specs.Tried.{is_bracket, brackets, Marked, Below, Noted, Ran, Result, Tried, TriedTimes, TriedMost}
 use Rattle.ways.proofs.Prefers.{step_on, step_within}
 use Rattle.ways.proofs.Reading.{none_written, First, first, seen_as, seen_times_as}
 

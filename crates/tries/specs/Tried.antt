@@ -7,11 +7,11 @@ use Rattle.grammar.specs.declared.items.Item.TheVariants as i
 use Rattle.grammar.specs.Grammar as g
 use Rattle.grammar.specs.Items.{times_of}
 use Rattle.tries.specs.declared.run.Limit.{Limit}
-use Rattle.tries.specs.declared.run.Limit.TheVariants.{Unlimited, Deep}
+use Rattle.tries.specs.declared.run.Limit.TheVariants.{Unlimited}
 use Rattle.tries.specs.declared.run.Outcome.{Outcome}
 use Rattle.tries.specs.declared.run.Outcome.TheVariants.{Matched, Failed, Exhausted}
-use Rattle.ways.specs.Match.{Way, step, at_end, from, most, taken, run}
-use Rattle.ways.specs.Meaning.{is_bar, leading, end_of}
+use Rattle.ways.specs.Match.{Way, at_end, run}
+use Rattle.ways.specs.Meaning.{leading, end_of}
 use Rattle.ways.specs.Reading.{WrittenAt}
 use Rattle.ways.specs.Pieces.{PieceAt}
 

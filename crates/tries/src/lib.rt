@@ -1,3 +1,4 @@
 // The match of one alternative by trying.
 #![tactic(auto)]
+
 pub mod run;

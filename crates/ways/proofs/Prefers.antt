@@ -1,13 +1,13 @@
 -- The first match is the preferred one. Assumes nothing.
-use Rattle.std.proofs.Common.{◌≡◌, ℕ, zero, suc, ◌+◌, ◌-◌, ◌<◌, ◌≤◌, Bool, true, false, cond, eqb, ◌⊎◌, List, [], ◌∷◌, length, drop, Some, None, Option, sym, refl, ap, ◌∙◌, subst, inl, inr, ⊎_elim, arith}
+use Rattle.std.proofs.Common.{◌≡◌, ℕ, zero, suc, ◌+◌, ◌-◌, ◌<◌, ◌≤◌, Bool, true, false, cond, eqb, List, [], ◌∷◌, length, drop, Some, None, Option, sym, refl, ap, ◌∙◌, subst, inl, inr, ⊎_elim, arith}
 use Rattle.std.specs.Char.{len_utf8}
 use Rattle.std.specs.Str.{chars}
 use Rattle.std.proofs.lemmas.List.{drop_all}
 use Rattle.std.proofs.lemmas.Str.{len_utf8_bounds, chars-nil}
 use Rattle.std.proofs.lemmas.Bool.{eqb-true, eq-eqb, cases_lt, false≢true}
 use Rattle.grammar.specs.Grammar.{Piece, Times, once, maybe, many, some, Item, takes, start, end, never, opens, closes, bar}
-use Rattle.ways.specs.Match.{Way, accepts, past, step, at_end, then, else, when, from, most, taken, run}
-use Rattle.ways.specs.Ways.{Row, Allows, Leads, Fits, NoFurther, Best, Preferred}
+use Rattle.ways.specs.Match.{Way, accepts, past, step, at_end, then, else, when, from, most, run}
+use Rattle.ways.specs.Ways.{Row, Leads, Fits, NoFurther, Best, Preferred}
 
 -- ===== a step goes on, and begins within the line
 past_on : (x : Piece) (p q : ℕ) (cs : List ℕ) → past x p cs ≡ Some q → p < q

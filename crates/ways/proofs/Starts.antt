@@ -1,5 +1,5 @@
 -- From the begin of one alternative to that of the next. Assumes nothing.
-use Rattle.std.proofs.Common.{◌≡◌, ℕ, zero, suc, ◌+◌, ◌-◌, ◌<◌, ◌≤◌, Bool, true, false, cond, List, [], ◌∷◌, ◌++◌, length, drop, Some, None, Option, sym, refl, ap, ◌∙◌, subst, append_assoc, arith}
+use Rattle.std.proofs.Common.{◌≡◌, ℕ, ◌+◌, ◌-◌, ◌<◌, ◌≤◌, Bool, true, false, cond, List, [], ◌∷◌, ◌++◌, length, drop, Some, sym, refl, ap, ◌∙◌, subst, append_assoc, arith}
 use Rattle.std.proofs.lemmas.List.{drop-drop, append-nil}
 use Rattle.grammar.specs.declared.items.Item.{Item}
 use Rattle.grammar.specs.declared.items.Item.TheVariants as tok
@@ -7,7 +7,6 @@ use Rattle.grammar.specs.Grammar as g
 use Rattle.grammar.specs.Items.{token_of, Reads}
 use Rattle.grammar.specs.Parse.{items}
 use Rattle.ways.specs.declared.start.Start.{Start}
-use Rattle.ways.specs.Reading.{WrittenAt}
 use Rattle.ways.specs.Meaning.{is_bar, onto, leading, alternatives, opening, pairs}
 use Rattle.ways.specs.Starts.{Begins, After}
 use Rattle.ways.proofs.Reading.{First, first, none_written, seen_as}

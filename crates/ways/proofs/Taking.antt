@@ -1,5 +1,5 @@
 -- Which characters a piece takes, as it is read from the expression. Assumes nothing.
-use Rattle.std.proofs.Common.{◌≡◌, ℕ, zero, suc, ◌+◌, ◌<◌, ◌≤◌, Bool, true, false, cond, not, eqb, ◌⊎◌, List, [], ◌∷◌, ◌++◌, length, get_or, take, drop, Some, None, Decides, Option, sym, refl, ap, ◌∙◌, subst, inl, inr, ⊎_elim, add-zero, arith}
+use Rattle.std.proofs.Common.{◌≡◌, ℕ, zero, suc, ◌+◌, ◌<◌, ◌≤◌, Bool, cond, eqb, List, ◌++◌, length, get_or, take, drop, Some, None, Decides, sym, ap, ◌∙◌, subst, ⊎_elim, add-zero, arith}
 use lib.Utf8.{encode}
 use Rattle.std.specs.Char.{len_utf8}
 use Rattle.std.specs.Str.{chars}
@@ -7,12 +7,11 @@ use Rattle.std.proofs.lemmas.List.{get_or-drop, get_or_append_left, length-appen
 use Rattle.std.proofs.lemmas.Bool.{eq-eqb, eqb-true, cases_lt}
 use Rattle.std.proofs.lemmas.Str.{length-encode, encode_same, char_from_byte, byte_from_char, chars-nil}
 use Rattle.std.proofs.lemmas.Bool.Decides.{same_from_decides, nat_tests}
-use Rattle.grammar.specs.declared.items.Piece.{Piece}
 use Rattle.grammar.specs.declared.items.Piece.TheVariants as t
 use Rattle.grammar.specs.Grammar as g
-use Rattle.grammar.specs.Items.{more, piece_of}
+use Rattle.grammar.specs.Items.{more}
 use Rattle.ways.specs.Match.{accepts, past, step}
-use Rattle.ways.specs.Pieces.{PieceAt, AcceptsWide, Alike, wide_by}
+use Rattle.ways.specs.Pieces.{AcceptsWide, Alike, wide_by}
 use Rattle.ways.proofs.Chars.{CharAt}
 
 -- the bytes of x stand at i, and those of c at p: they are alike where x is c

@@ -1,5 +1,5 @@
 -- Where the groups of a match lie. Assumes nothing.
-use Rattle.std.specs.Prelude.{ℕ, zero, suc, ◌+◌, List, [], ◌∷◌, replicate, Some, None, Option, slice_set}
+use Rattle.std.specs.Prelude.{ℕ, suc, List, [], ◌∷◌, replicate, Some, None, Option, slice_set}
 use Rattle.matcher.specs.declared.answer.Span.{Span}
 use Rattle.matcher.specs.declared.answer.Region.{Region}
 use Rattle.matcher.specs.Regions.{group, span}

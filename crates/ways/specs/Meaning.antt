@@ -1,14 +1,13 @@
 -- What a search for an expression answers, as it is computed. Assumes nothing.
-use Rattle.std.specs.Prelude.{ℕ, zero, suc, ◌+◌, Bool, true, false, cond, List, [], ◌∷◌, set, replicate, Some, None, Option}
+use Rattle.std.specs.Prelude.{ℕ, ◌+◌, Bool, true, false, cond, List, [], ◌∷◌, Some, None, Option}
 use Rattle.matcher.specs.declared.answer.Region.{Region}
-use Rattle.matcher.specs.Regions.{group, span}
 use Rattle.matcher.specs.Laws.{Meaning}
 use Rattle.scan.specs.Earliest.{or_else, earliest}
 use Rattle.grammar.specs.Grammar.{Item, takes, start, end, never, opens, closes, bar}
 use Rattle.grammar.specs.Reader.{refusal}
 use Rattle.grammar.specs.Parse.{items}
 use Rattle.ways.specs.Match.{Way, run}
-use Rattle.ways.specs.Groups.{Laying, blank, put, laid}
+use Rattle.ways.specs.Groups.{blank, put, laid}
 
 abbrev pub is_bar : Item → Bool
 is_bar (takes x t) = false

@@ -1,7 +1,7 @@
 -- Which match is the first, in words of ways: of all the ways in which the items can take characters of the line, the one that
 -- takes more at the first item at which they differ. Assumes nothing.
-use Rattle.std.specs.Prelude.{◌≡◌, ℕ, zero, suc, ◌<◌, ◌≤◌, Bool, true, ◌⊎◌, List, [], ◌∷◌, Some, None, Option}
-use Rattle.grammar.specs.Grammar.{Piece, Times, once, maybe, many, some, Item, takes, start, end, never, opens, closes, bar}
+use Rattle.std.specs.Prelude.{◌≡◌, ℕ, zero, suc, ◌<◌, ◌≤◌, true, ◌⊎◌, List, [], ◌∷◌, Some, None, Option}
+use Rattle.grammar.specs.Grammar.{Times, once, maybe, many, some, Item, takes, start, end, never, opens, closes, bar}
 use Rattle.ways.specs.Match.{Way, step, at_end}
 
 -- n characters in a row, each taken by s, lead from p to q

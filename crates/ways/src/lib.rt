@@ -7,5 +7,6 @@
 //
 // `step` is one item at one place, and `start` where the alternatives begin.
 #![tactic(auto)]
+
 pub mod start;
 pub mod step;

@@ -1,13 +1,13 @@
 -- The walk through an expression gives the first word that counts. Assumes nothing.
-use Rattle.std.proofs.Common.{◌≡◌, ℕ, suc, ◌+◌, ◌<◌, ◌≤◌, Bool, true, false, cond, not, ◌&&◌, ◌||◌, eqb, ltb, ◌⊎◌, List, [], ◌∷◌, length, get_or, drop, Some, None, Option, sym, refl, ap, ◌∙◌, subst, inl, inr, ⊎_elim, add-zero, arith}
-use Rattle.std.proofs.lemmas.List.{drop_more, drop_all, at_drop_more, at_drop_all}
+use Rattle.std.proofs.Common.{◌≡◌, ℕ, suc, ◌+◌, ◌<◌, ◌≤◌, Bool, true, false, cond, ◌&&◌, eqb, ltb, List, [], ◌∷◌, length, get_or, drop, Some, None, Option, sym, refl, ap, ◌∙◌, ⊎_elim, add-zero, arith}
+use Rattle.std.proofs.lemmas.List.{at_drop_more, at_drop_all}
 use Rattle.std.proofs.lemmas.Bool.{cond-true, cond-false, cond_both, and_parts, and_cases, and_left, ltb-true, ltb-false, eqb-true, cases_Bool}
 use Rattle.chars.specs.Sets.{digit}
 use Rattle.matcher.specs.declared.answer.Region.{Region}
 use Rattle.matcher.specs.Regions.{spanning}
 use Rattle.word.specs.declared.walk.Walk.{Walk}
-use Rattle.word.specs.Meaning.{Letters, onto, read_from, words_of, same_letter, stands, free_before, free_after, counts, first_of, word_at}
-use Rattle.word.specs.Walks.{walking, fresh, bar, letter_at, stepped_from, stepped, end_of, or_end, found}
+use Rattle.word.specs.Meaning.{Letters, onto, read_from, words_of, same_letter, stands, free_before, free_after, first_of, word_at}
+use Rattle.word.specs.Walks.{walking, fresh, bar, letter_at, stepped, end_of, or_end, found}
 
 -- where the rest w of a word ends that was found up to q
 abbrev word_end : List ℕ → Option ℕ → Letters → Option ℕ

@@ -1,8 +1,8 @@
 -- What may follow in each state of the reader, one byte on; and some end that may. Assumes nothing.
-use Rattle.std.specs.Prelude.{◌≡◌, ℕ, zero, suc, ◌<◌, ◌≤◌, Bool, true, false, cond, ◌||◌, ◌⊎◌, List, [], ◌∷◌, ◌++◌, length, Some, None, Option, ◌==◌, ◌≢◌, nat_le, refl}
+use Rattle.std.specs.Prelude.{◌≡◌, ℕ, zero, suc, ◌≤◌, true, false, ◌||◌, ◌⊎◌, List, [], ◌∷◌, ◌++◌, length, Some, None, Option, ◌==◌, ◌≢◌, nat_le, refl}
 use Rattle.std.proofs.Common.{sym, ap, subst, ◌∙◌, inl, inr, ⊎_elim, arith}
 use Rattle.std.proofs.Math.Utf8.{encode}
-use Rattle.std.proofs.lemmas.Bool.{cond_both, cond-true, cond-false, eqb-true, eqb-false, ne_eqb, leb-true, le-leb, and_parts, and_from, or_cases, or_left, or_right, cases_eq, cases_Bool, false≢true}
+use Rattle.std.proofs.lemmas.Bool.{cond_both, cond-true, cond-false, eqb-true, ne_eqb, leb-true, le-leb, and_parts, and_from, or_cases, or_left, or_right, false≢true}
 use Rattle.std.proofs.lemmas.Bool.Decides.{nat_tests}
 use Rattle.chars.specs.declared.leads.Owed.{Owed}
 use Rattle.chars.specs.Sets.{between, digit}
@@ -13,8 +13,8 @@ use Rattle.matcher.specs.Refusals.{Judged}
 use Rattle.matcher.proofs.Longest.{From, Kept, Next, judged}
 use Rattle.word.specs.declared.reader.State.{State}
 use Rattle.word.specs.declared.reader.State.TheVariants.{Empty, Filled, Escape, Inside}
-use Rattle.word.specs.Grammar.{Sign, plain, wide, marked, numbered, Word, Expression, signs, words, sign, signed, barred, written, GoodSign, GoodSigns, GoodWords, Spells, Legal}
-use Rattle.word.specs.Reader.{lead, owing, inside, next, done, refusal}
+use Rattle.word.specs.Grammar.{Sign, plain, wide, marked, numbered, Word, Expression, signs, words, sign, signed, barred, GoodSign, GoodSigns, GoodWords, Legal}
+use Rattle.word.specs.Reader.{lead, owing, next, done, refusal}
 use Rattle.word.specs.Reader.{begun as begun_by}
 
 -- the rest of a word, and more words

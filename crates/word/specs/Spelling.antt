@@ -1,15 +1,15 @@
 -- The words that the bytes of an expression spell are the words that were written. Assumes nothing.
-use Rattle.std.specs.Prelude.{◌≡◌, ℕ, ◌+◌, ◌/◌, ◌<◌, ◌≤◌, Bool, true, false, cond, ◌⊎◌, List, [], ◌∷◌, ◌++◌, map, Some, None, Option, ◌==◌, ◌≢◌, refl}
-use Rattle.std.proofs.Common.{sym, ap, subst, ◌∙◌, inl, inr, ⊎_elim, arith}
-use Rattle.std.proofs.Math.Utf8.{scalar, encode, next}
+use Rattle.std.specs.Prelude.{◌≡◌, ℕ, ◌<◌, ◌≤◌, true, false, List, [], ◌∷◌, ◌++◌, map, Some, None, ◌==◌, ◌≢◌, refl}
+use Rattle.std.proofs.Common.{sym, ap, subst, ◌∙◌, ⊎_elim, arith}
+use Rattle.std.proofs.Math.Utf8.{encode}
 use Rattle.std.specs.List.{AllByRecursion}
-use Rattle.std.proofs.lemmas.List.{append-nil, append_assoc}
+use Rattle.std.proofs.lemmas.List.{append-nil}
 use Rattle.std.proofs.lemmas.Bool.{cond-true, cond-false, ne_eqb, cases_lt}
 use Rattle.std.proofs.lemmas.Bool.Decides.{nat_tests}
 use Rattle.chars.specs.Sets.{digit}
 use Rattle.chars.specs.Marks.{mark, bare}
 use Rattle.chars.proofs.Wide.{two, three, four}
-use Rattle.word.specs.Grammar.{Sign, plain, wide, marked, numbered, Word, Expression, signs, words, sign, signed, barred, written, GoodSign, GoodSigns, GoodWords, Spells}
+use Rattle.word.specs.Grammar.{Sign, plain, wide, marked, numbered, Word, Expression, signs, words, sign, signed, barred, GoodSign, GoodSigns, GoodWords, Spells}
 use Rattle.word.specs.Meaning.{Letters, onto, read_from, words_of}
 
 -- what a sign asks of the line

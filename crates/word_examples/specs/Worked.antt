@@ -1,5 +1,5 @@
 -- Worked examples of the definitions. Assumes nothing.
-use Rattle.std.specs.Prelude.{◌≡◌, ℕ, List, [], ◌∷◌, Some, None, codes}
+use Rattle.std.specs.Prelude.{◌≡◌, [], ◌∷◌, Some, None, codes}
 use Rattle.matcher.specs.declared.answer.Answer.TheVariants.{Nothing, Found, Refused}
 use Rattle.matcher.specs.Regions.{spanning}
 use Rattle.word.specs.Reader.{refusal}

@@ -2,6 +2,7 @@
 //
 // The expected answers are worked out by hand from the rules in docs/RULES.md.
 #![tactic(auto)]
+
 ghost use Rattle.std.specs.Prelude.{◌≡◌, true};
 ghost use Rattle.word_examples.specs.Worked.{Places, Answers};
 

@@ -1,4 +1,4 @@
-use Rattle.std.proofs.Common.{◌≡◌, length, sym, ap, ◌∙◌}
+use Rattle.std.proofs.Common.{length, sym, ap, ◌∙◌}
 use Rattle.std.proofs.lemmas.Bool.{eqb-true}
 use Rattle.cases.specs.Hex.{spelled}
 use Rattle.cases.proofs.Pairs.{hyphen, not_hyphen, not_one, illegible_empty, illegible_odd}

@@ -1,4 +1,4 @@
-use Rattle.std.proofs.Common.{◌≡◌, Bool, IsUtf8, Decides}
+use Rattle.std.proofs.Common.{IsUtf8, Decides}
 use Rattle.std.proofs.lemmas.Bool.Decides.{same_from_decides, Decides-at}
 use Rattle.chars.specs.Edges.{text}
 use Rattle.chars.proofs.Text.{text_tells, ok_decides}

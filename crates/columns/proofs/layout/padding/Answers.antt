@@ -1,4 +1,4 @@
-use Rattle.std.proofs.Common.{◌≡◌, ◌++◌, replicate, string_bytes, ap, ◌∙◌}
+use Rattle.std.proofs.Common.{◌++◌, replicate, string_bytes, ap, ◌∙◌}
 use Rattle.std.specs.Str.Iter.{chars_rest}
 use Rattle.std.proofs.lemmas.Result.{IfOk-from_err}
 use Rattle.columns.specs.Columns.{columns}

@@ -1,7 +1,7 @@
-use Rattle.std.proofs.Common.{◌≡◌, ℕ, ◌≤◌, length, sym, subst, arith}
+use Rattle.std.proofs.Common.{◌≤◌, length, sym, subst, arith}
 use Rattle.ways.specs.declared.start.Start.{Start}
 use Rattle.ways.specs.Starts.{Onward}
-use Rattle.expression.proofs.Matched.{From, begin_from, decided, none_left, next_from}
+use Rattle.expression.proofs.Matched.{From, begin_from}
 use Rattle.expression.proofs.attempts.match_at.Goals as goal
 
 pub loop-other-init : goal.loop-other-init

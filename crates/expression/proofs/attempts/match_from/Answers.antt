@@ -1,4 +1,4 @@
-use Rattle.std.proofs.Common.{◌≡◌, ℕ, ◌≤◌, length, sym, subst, arith}
+use Rattle.std.proofs.Common.{◌≡◌, ℕ, subst, arith}
 use Rattle.ways.specs.Meaning.{at}
 use Rattle.expression.specs.declared.attempts.Verdict.{Verdict}
 use Rattle.expression.specs.Attempts.{Says}

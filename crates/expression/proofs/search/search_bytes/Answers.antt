@@ -1,4 +1,4 @@
-use Rattle.std.proofs.Common.{◌≡◌, sym, ◌∙◌}
+use Rattle.std.proofs.Common.{sym, ◌∙◌}
 use Rattle.grammar.specs.Reader.{refusal}
 use Rattle.ways.specs.Meaning.{at}
 use Rattle.scan.proofs.Earliest.{at_outside}

@@ -1,4 +1,4 @@
-use Rattle.std.proofs.Common.{◌≡◌, IsUtf8, sym, ◌∙◌, rules}
+use Rattle.std.proofs.Common.{IsUtf8, sym, ◌∙◌, rules}
 use Rattle.grammar.specs.Reader.{refusal}
 use Rattle.ways.specs.Meaning.{at}
 use Rattle.scan.proofs.Earliest.{at_inside}

@@ -1,4 +1,4 @@
-use Rattle.std.proofs.Common.{◌-◌, drop, sym, arith}
+use Rattle.std.proofs.Common.{drop, sym, arith}
 use Rattle.std.proofs.lemmas.List.{get_or-drop, get_or_past, length-drop}
 use Rattle.grammar.proofs.items.peek.Goals as goal
 

@@ -1,6 +1,5 @@
-use Rattle.std.proofs.Common.{◌≡◌, List, [], ◌∷◌, ◌++◌, Some, None, vec_items, IsUtf8, Option, sym, ap, ◌∙◌, subst, rules}
+use Rattle.std.proofs.Common.{◌≡◌, List, [], ◌∷◌, ◌++◌, Some, None, vec_items, IsUtf8, sym, ◌∙◌, subst, rules}
 use Rattle.matcher.specs.declared.answer.Span.{Span}
-use Rattle.matches.specs.Chains.{steps}
 use Rattle.matches.proofs.Chains.{Follows, follows_more, follows_end, matches, refused_of, legal}
 use Rattle.std.proofs.lemmas.Result.{err_from_is_err_and}
 use Rattle.matches.proofs.all.all_matches.Goals as goal

@@ -1,5 +1,4 @@
-use Rattle.std.proofs.Common.{List, ◌++◌, vec_items}
-use Rattle.matcher.specs.declared.answer.Span.{Span}
+use Rattle.std.proofs.Common.{vec_items}
 use Rattle.matches.proofs.Chains.{Follows, ahead}
 use Rattle.matches.proofs.all.all_matches.Given as goal
 

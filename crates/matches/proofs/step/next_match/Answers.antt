@@ -1,7 +1,6 @@
-use Rattle.std.proofs.Common.{◌≡◌, ℕ, Some, sym, refl, ap, ◌∙◌, arith}
+use Rattle.std.proofs.Common.{◌≡◌, ℕ, Some, sym, ◌∙◌, arith}
 use Rattle.matcher.specs.declared.answer.Answer.TheVariants.{Found}
 use Rattle.matcher.specs.Regions.{group}
-use Rattle.matches.specs.Steps.{go_on}
 use Rattle.matches.proofs.Chains.{Taken, further, step_is}
 use Rattle.matches.proofs.step.next_match.Goals as goal
 

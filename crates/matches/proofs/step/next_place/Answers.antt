@@ -1,4 +1,4 @@
-use Rattle.std.proofs.Common.{◌≡◌, suc, ◌-◌, eqb, length, Some, sym, ◌∙◌, eq-eqb}
+use Rattle.std.proofs.Common.{suc, ◌-◌, eqb, length, Some, sym, ◌∙◌, eq-eqb}
 use Rattle.std.proofs.lemmas.Bool.{cond-true}
 use Rattle.matches.specs.Steps.{edge_from}
 use Rattle.matches.proofs.Edges.{next_edge}

@@ -1,4 +1,4 @@
-use Rattle.std.proofs.Common.{◌≡◌, is_some, sym, ap, ◌∙◌, arith}
+use Rattle.std.proofs.Common.{is_some, sym, ap, ◌∙◌, arith}
 use Rattle.replay.proofs.Groups.{upto_none, upto_present, upto_absent}
 use Rattle.replay.proofs.answers.groups_present.Goals as goal
 use Rattle.replay.proofs.answers.groups_present.Goals.{then-is_some, else-is_some}

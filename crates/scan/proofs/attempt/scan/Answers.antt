@@ -1,4 +1,4 @@
-use Rattle.std.proofs.Common.{◌≡◌, sym, ◌∙◌}
+use Rattle.std.proofs.Common.{sym, ◌∙◌}
 use Rattle.scan.proofs.Earliest.{at_outside}
 use Rattle.scan.proofs.attempt.scan.Goals as goal
 

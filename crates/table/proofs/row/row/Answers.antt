@@ -1,4 +1,4 @@
-use Rattle.std.proofs.Common.{◌≡◌, length, take, sym, subst, arith}
+use Rattle.std.proofs.Common.{◌≡◌, length, sym, subst, arith}
 use Rattle.std.proofs.lemmas.List.{take_at}
 use Rattle.table.specs.Cells.{RowOn}
 use Rattle.table.proofs.row.row.Goals as goal

@@ -1,12 +1,12 @@
-use Rattle.std.proofs.Common.{◌≡◌, ℕ, ◌+◌, ◌-◌, ◌*◌, ◌<◌, ◌≤◌, Bool, true, false, ◌⊎◌, List, length, Some, None, Option, sym, refl, ap, ◌∙◌, subst, inl, inr, ⊎_elim, arith, rules}
+use Rattle.std.proofs.Common.{◌≡◌, ℕ, ◌+◌, ◌-◌, Bool, true, false, List, length, Some, Option, sym, ap, ◌∙◌, subst, ⊎_elim, arith, rules}
 use Rattle.grammar.specs.declared.items.Item.{Item}
 use Rattle.grammar.specs.declared.items.Item.TheVariants as tok
 use Rattle.tries.specs.declared.run.Limit.{Limit}
 use Rattle.tries.specs.declared.run.Limit.TheVariants.{Unlimited}
 use Rattle.tries.specs.declared.run.Outcome.{Outcome}
 use Rattle.tries.specs.Tried.{holds_at, Tried, TriedMost}
-use Rattle.tries.proofs.Tries.{falls, no_more, ends, spent, takes, bars, opens, closes, starts, ends_line, not_start, not_end, never}
-use Rattle.tries.proofs.Tries.{once_on, some_on, many_on, maybe_none, maybe_first, maybe_again, once_none, some_none, most_first, most_again, most_none, most_spent}
+use Rattle.tries.proofs.Tries.{falls, no_more, ends, takes, bars, opens, closes, starts, ends_line, not_start, not_end, never}
+use Rattle.tries.proofs.Tries.{once_on, some_on, many_on, maybe_none, maybe_first, maybe_again, most_first, most_again, most_none}
 use Rattle.tries.proofs.run.+run_run_most_run_times.Goals as goal
 use Rattle.tries.proofs.run.+run_run_most_run_times.Goals.{run_most-in-Some-step+in-Failed, run_most-in_default-step}
 

@@ -1,4 +1,4 @@
-use Rattle.std.proofs.Common.{◌≡◌, sym, ap, ◌∙◌}
+use Rattle.std.proofs.Common.{sym, ap, ◌∙◌}
 use Rattle.ways.specs.Match.{accepts}
 use Rattle.ways.proofs.Taking.{is_low, is_high}
 use Rattle.ways.proofs.step.takes.Goals as goal

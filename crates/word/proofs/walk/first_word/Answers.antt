@@ -1,4 +1,4 @@
-use Rattle.std.proofs.Common.{◌≡◌, ◌+◌, drop, sym, ap, ◌∙◌}
+use Rattle.std.proofs.Common.{◌+◌, drop, sym, ap, ◌∙◌}
 use Rattle.word.specs.declared.walk.Walk.{Walk}
 use Rattle.word.specs.Walks.{fresh, or_end, found}
 use Rattle.word.proofs.Walking.{at_bar, at_byte, at_end_lem}

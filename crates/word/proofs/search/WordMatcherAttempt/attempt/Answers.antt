@@ -1,5 +1,4 @@
 use Rattle.std.proofs.Common.{◌≡◌, ℕ, true, false, List, Some, None, Option, sym, ap, ◌∙◌}
-use Rattle.matcher.specs.declared.answer.Region.{Region}
 use Rattle.word.specs.Meaning.{free_before, words_of, word_at}
 use Rattle.word.specs.Walks.{fresh, found}
 use Rattle.word.proofs.Walking.{spanned, walk_found, none_touched}
