@@ -19,8 +19,8 @@ pub trait Attempt {
         ensures { result ≡ refusal self.now expression.now };
 
     fn attempt(&self, expression: &[u8], line: &str, place: usize) -> Option<Region>
-        requires expression_value { refusal self.now expression.now ≡ Neither }
-        requires char_boundary { IsCharBoundary line.now place }
+        requires legal { refusal self.now expression.now ≡ Neither }
+        requires at_edge { IsCharBoundary line.now place }
         ensures { result ≡ at self.now expression.now line.now place };
 
     ghost placed: { (a : Self) (e l : List ℕ) (p : ℕ) (r : Found) → refusal a e ≡ Neither → IsUtf8 l → IsCharBoundary l p → at a e l p ≡ Just r → Placed l p r };
@@ -50,8 +50,8 @@ fn first_from<T: Attempt>(
     line: &str,
     place: usize,
 ) -> Option<Region>
-    requires expression_value { T.refusal attempts.now expression.now ≡ Neither }
-    requires char_boundary { IsCharBoundary line.now place }
+    requires legal { T.refusal attempts.now expression.now ≡ Neither }
+    requires at_edge { IsCharBoundary line.now place }
     ensures { result ≡ earliest_from line.now (T.at attempts.now expression.now line.now) place }
 {
     let mut at = place;
