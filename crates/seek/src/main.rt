@@ -3,8 +3,8 @@
 //     seek word 'salt|pepper' < sheet.txt
 //     seek expression '(\d+) ([kg]+)' < sheet.txt
 //
-// prints a line for each match, as `3 4 8 Salt`: the line's number from 1, the bytes of the line from which and up to which the
-// match goes, and its text; below it a line for each group that is present, as `  (1) 4 5 S`. A line break is no part of its line.
+// prints a line for each match, as `3 0 5 500 g`: the line's number from 1, the bytes of the line from which and up to which the
+// match goes, and its text; below it a line for each group that is present, as `  (1) 0 3 500`. A line break is no part of its line.
 // A line that is not UTF-8 is named and skipped, and the last line says how many lines and matches there were. An expression that is
 // refused is shown with a caret under the first byte with which no expression goes on, and no input is read. After a refusal, and
 // where the arguments are wrong or reading or writing fails, the status is 1.

@@ -1,4 +1,5 @@
 -- What may follow in each state of the reader, one byte on; and some end that may. Assumes nothing.
+-- Proofs alone: no contract cites what is defined here. They stand in specs/ since the laws that an impl proves can name nothing else.
 use Rattle.std.specs.Prelude.{◌≡◌, ℕ, zero, suc, ◌≤◌, true, false, ◌||◌, ◌⊎◌, List, [], ◌∷◌, ◌++◌, length, Some, None, Option, ◌==◌, ◌≢◌, nat_le, refl}
 use Rattle.std.proofs.Common.{sym, ap, subst, ◌∙◌, inl, inr, ⊎_elim, arith}
 use Rattle.std.proofs.Math.Utf8.{encode}

@@ -1,4 +1,5 @@
 -- The words that the bytes of an expression spell are the words that were written. Assumes nothing.
+-- Proofs alone: no contract cites what is defined here. They stand in specs/ since the laws that an impl proves can name nothing else.
 use Rattle.std.specs.Prelude.{◌≡◌, ℕ, ◌<◌, ◌≤◌, true, false, List, [], ◌∷◌, ◌++◌, map, Some, None, ◌==◌, ◌≢◌, refl}
 use Rattle.std.proofs.Common.{sym, ap, subst, ◌∙◌, ⊎_elim, arith}
 use Rattle.std.proofs.Math.Utf8.{encode}

@@ -1,4 +1,5 @@
 -- The test of a word at a place decides whether the word counts there. Assumes nothing.
+-- Proofs alone: no contract cites what is defined here. They stand in specs/ since the laws that an impl proves can name nothing else.
 use Rattle.std.specs.Prelude.{◌≡◌, ℕ, zero, suc, ◌+◌, ◌-◌, ◌<◌, ◌≤◌, true, false, not, ◌&&◌, List, [], ◌∷◌, ◌++◌, map, length, drop, Some, IsUtf8, ◌==◌, nat_le, slice_index, refl}
 use Rattle.std.proofs.Common.{sym, ap, subst, ◌∙◌, ⊎_elim, arith, add-zero, le_of_suc-le-suc}
 use Rattle.std.proofs.Math.Utf8.{encode}
