@@ -4,13 +4,12 @@ use mathlib.Core.Bool as bool
 use Rattle.std.proofs.lemmas.List.{at_drop_more, at_drop_all, drop-drop}
 use Rattle.std.proofs.lemmas.Bool.{cond-false, eqb-true, ne_eqb, le-leb, and_from}
 use Rattle.std.proofs.lemmas.Bool.Decides.{nat_tests}
-use Rattle.chars.specs.Sets.{between}
-use Rattle.grammar.specs.declared.set.Set.{Set}
-use Rattle.grammar.specs.declared.set.Set.TheVariants.{Digits, Words, Spaces}
+use Rattle.chars.specs.Sets.{between, in_set}
+use Rattle.chars.specs.declared.sets.Set.{Set}
+use Rattle.chars.specs.declared.sets.Set.TheVariants.{Digits, Words, Spaces}
 use Rattle.grammar.specs.declared.class.Spot.{Spot}
 use Rattle.grammar.specs.declared.class.Spot.TheVariants.{Fresh, Last, Range}
 use Rattle.grammar.specs.declared.class.Passed.{Passed}
-use Rattle.grammar.specs.Sets.{in_set}
 use Rattle.grammar.specs.Grammar.{Sign, plain, escaped, Member, one, range, every, letter, sign, value, member, members, caret, GoodSign, GoodMember, GoodMembers}
 use Rattle.grammar.specs.Classes.{in_member, in_members, in_class, unless, after_escape, passes, listed_on, listed, taken, complemented, members_of, Opens, Tests}
 use Rattle.grammar.proofs.Told.{is_mark, is_set, unlike, mark_low, unmarked_low}

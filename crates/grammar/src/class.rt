@@ -61,7 +61,7 @@ fn after_escape(c: u8, b: u8) -> Passed
     ensures { result ≡ after_escape_spec c b (escaped_of b) }
 {
     match escaped_of(b) {
-        Escaped::Set(set) => unless_taken(set.takes(c), Spot::Fresh),
+        Some(Escaped::Set(set)) => unless_taken(set.takes(c), Spot::Fresh),
         _ => single(c, b),
     }
 }
