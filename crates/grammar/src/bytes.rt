@@ -39,7 +39,7 @@ pub enum Escaped {
     Set(Set),
 }
 
-// None where no item and no alternative goes on with the byte.
+// None where nothing begins with the byte.
 pub fn kind_of(b: u8) -> Option<Kind>
     ensures { result ≡ kind_of b }
 {
@@ -60,6 +60,7 @@ pub fn kind_of(b: u8) -> Option<Kind>
     }
 }
 
+// None where the byte may not stand there.
 pub fn inside_of(b: u8) -> Option<Inside>
     ensures { result ≡ inside_of_spec b }
 {
@@ -86,6 +87,7 @@ fn set_of(b: u8) -> Option<Set>
     }
 }
 
+// None where no backslash may stand before the byte.
 pub fn escaped_of(b: u8) -> Option<Escaped>
     ensures { result ≡ escaped_of_spec b }
 {
