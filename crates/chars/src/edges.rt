@@ -24,9 +24,5 @@ pub fn next_edge(line: &str, place: usize) -> Option<usize>
     if place >= line.len() {
         return None;
     }
-    let mut next = place + 1;
-    while !line.is_char_boundary(next) {
-        next += 1;
-    }
-    Some(next)
+    Some(line.ceil_char_boundary(place + 1))
 }

@@ -5,35 +5,32 @@ ghost use Rattle.chars.specs.Marks.{mark, bare};
 pub fn is_mark(b: u8) -> bool
     ensures { result ≡ mark b }
 {
-    match b {
+    matches!(
+        b,
         b'\\'
-        | b'.'
-        | b'+'
-        | b'*'
-        | b'?'
-        | b'('
-        | b')'
-        | b'|'
-        | b'['
-        | b']'
-        | b'{'
-        | b'}'
-        | b'^'
-        | b'$'
-        | b'#'
-        | b'&'
-        | b'-'
-        | b'~' => true,
-        _ => false,
-    }
+            | b'.'
+            | b'+'
+            | b'*'
+            | b'?'
+            | b'('
+            | b')'
+            | b'|'
+            | b'['
+            | b']'
+            | b'{'
+            | b'}'
+            | b'^'
+            | b'$'
+            | b'#'
+            | b'&'
+            | b'-'
+            | b'~'
+    )
 }
 
 // Whether an ASCII character stands for itself without a backslash, outside of a class.
 pub fn is_bare(b: u8) -> bool
     ensures { result ≡ bare b }
 {
-    match b {
-        b'#' | b'&' | b'-' | b'~' => true,
-        _ => b < 128 && !is_mark(b),
-    }
+    matches!(b, b'#' | b'&' | b'-' | b'~') || (b < 128 && !is_mark(b))
 }

@@ -1,25 +1,25 @@
 // The sets `\d`, `\w` and `\s`, from one table of the 128 ASCII characters. No other character is in any of them.
 ghost use Rattle.std.specs.Prelude.{◌≡◌};
-ghost use Rattle.chars.specs.Sets.{digit, word, space, sort_of as sort_of_spec};
+ghost use Rattle.chars.specs.Sets.{in_set, sort_of as sort_of_spec};
 
-#[derive(Clone, Copy)]
+// Where the sets take the same characters: every digit is a word character, and no other two sets overlap.
+#[derive(Clone, Copy, Debug, PartialEq, Eq)]
 pub enum Sort {
     Digit,
     // an ASCII letter or `_`
     Letter,
     Space,
-    Other,
 }
 
-const D: Sort = Sort::Digit;
+const D: Option<Sort> = Some(Sort::Digit);
 
-const L: Sort = Sort::Letter;
+const L: Option<Sort> = Some(Sort::Letter);
 
-const S: Sort = Sort::Space;
+const S: Option<Sort> = Some(Sort::Space);
 
-const O: Sort = Sort::Other;
+const O: Option<Sort> = None;
 
-const SORTS: [Sort; 128] = [
+const SORTS: [Option<Sort>; 128] = [
     O, O, O, O, O, O, O, O, O, S, S, S, S, S, O, O, // 0 to 15
     O, O, O, O, O, O, O, O, O, O, O, O, O, O, O, O, // 16 to 31
     S, O, O, O, O, O, O, O, O, O, O, O, O, O, O, O, // 32 to 47
@@ -30,43 +30,32 @@ const SORTS: [Sort; 128] = [
     L, L, L, L, L, L, L, L, L, L, L, O, O, O, O, O, // 112 to 127
 ];
 
-// What the table says of a byte.
-fn sort_of(b: u8) -> Sort
+// What the table says of a byte; none where it is in no set.
+fn sort_of(b: u8) -> Option<Sort>
     ensures { result ≡ sort_of_spec b }
 {
-    if b < 128 {
-        SORTS[b as usize]
-    } else {
-        Sort::Other
-    }
+    SORTS.get(b as usize).copied().flatten()
 }
 
-// `\d`: 0 to 9.
-pub fn is_digit(b: u8) -> bool
-    ensures { result ≡ digit b }
-{
-    match sort_of(b) {
-        Sort::Digit => true,
-        _ => false,
-    }
+// The sets, as an expression names them.
+#[derive(Clone, Copy, Debug, PartialEq, Eq)]
+pub enum Set {
+    // `\d`: 0 to 9
+    Digits,
+    // `\w`: ASCII letters, digits and `_`
+    Words,
+    // `\s`: bytes 9 to 13 and 32
+    Spaces,
 }
 
-// `\w`: ASCII letters, digits and `_`.
-pub fn is_word(b: u8) -> bool
-    ensures { result ≡ word b }
-{
-    match sort_of(b) {
-        Sort::Digit | Sort::Letter => true,
-        _ => false,
-    }
-}
-
-// `\s`: bytes 9 to 13 and 32.
-pub fn is_space(b: u8) -> bool
-    ensures { result ≡ space b }
-{
-    match sort_of(b) {
-        Sort::Space => true,
-        _ => false,
+impl Set {
+    pub fn takes(self, b: u8) -> bool
+        ensures { result ≡ in_set self b }
+    {
+        match self {
+            Set::Digits => matches!(sort_of(b), Some(Sort::Digit)),
+            Set::Words => matches!(sort_of(b), Some(Sort::Digit | Sort::Letter)),
+            Set::Spaces => matches!(sort_of(b), Some(Sort::Space)),
+        }
     }
 }

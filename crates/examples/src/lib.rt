@@ -6,9 +6,9 @@
 #[cfg(test)]
 mod tests {
     use chars::edges::{is_edge, is_text, next_edge};
-    use chars::lines::next_line;
+    use chars::lines::{lines, next_line};
     use chars::marks::{is_bare, is_mark};
-    use chars::sets::{is_digit, is_space, is_word};
+    use chars::sets::Set;
     use matcher::answer::Span;
     use matches::step::next_place;
 
@@ -49,7 +49,9 @@ mod tests {
     #[test]
     fn sets_take_what_they_should(rt: HostRuntime) {
         for (b, digit, word, space) in SETS {
-            assert!(rt; is_digit(b) == digit && is_word(b) == word && is_space(b) == space);
+            assert!(rt; Set::Digits.takes(b) == digit);
+            assert!(rt; Set::Words.takes(b) == word);
+            assert!(rt; Set::Spaces.takes(b) == space);
         }
     }
 
@@ -85,6 +87,16 @@ mod tests {
         assert!(rt; is_cut(b"\nb", b"\n", b"b"));
         assert!(rt; is_cut(b"b\r", b"b\r", b""));
         assert!(rt; next_line(b"").is_none());
+    }
+
+    // The lines in order, numbered from 1, and no line of nothing.
+    #[test]
+    fn lines_come_in_order(rt: HostRuntime) {
+        let wanted: [(u64, &[u8]); 3] = [(1, b"a\n"), (2, b"\n"), (3, b"b")];
+        for ((number, line), expected) in (1u64..).zip(lines(b"a\n\nb")).zip(wanted) {
+            assert!(rt; (number, line) == expected);
+        }
+        assert!(rt; lines(b"a\n\nb").count() == 3 && lines(b"").next().is_none());
     }
 
     // At a match's end; after an empty match at the next edge, and nowhere at the line's end.

@@ -1,16 +1,16 @@
 -- The test of a class, read from its bytes, is that of its members. Assumes nothing.
-use Rattle.std.proofs.Common.{◌≡◌, ℕ, ◌+◌, ◌<◌, ◌≤◌, Bool, true, false, ◌||◌, eqb, leb, List, [], ◌∷◌, length, get_or, drop, sym, refl, ap, ◌∙◌, arith}
+use Rattle.std.proofs.Common.{◌≡◌, ℕ, ◌+◌, ◌<◌, ◌≤◌, Bool, true, false, ◌&&◌, ◌||◌, eqb, leb, List, [], ◌∷◌, length, get_or, take, drop, sym, refl, ap, ◌∙◌, arith}
 use mathlib.Core.Bool as bool
+use lib.Pointwise.{pointwise}
 use Rattle.std.proofs.lemmas.List.{at_drop_more, at_drop_all, drop-drop}
 use Rattle.std.proofs.lemmas.Bool.{cond-false, eqb-true, ne_eqb, le-leb, and_from}
 use Rattle.std.proofs.lemmas.Bool.Decides.{nat_tests}
-use Rattle.chars.specs.Sets.{between}
-use Rattle.grammar.specs.declared.set.Set.{Set}
-use Rattle.grammar.specs.declared.set.Set.TheVariants.{Digits, Words, Spaces}
+use Rattle.chars.specs.Sets.{between, in_set}
+use Rattle.chars.specs.declared.sets.Set.{Set}
+use Rattle.chars.specs.declared.sets.Set.TheVariants.{Digits, Words, Spaces}
 use Rattle.grammar.specs.declared.class.Spot.{Spot}
 use Rattle.grammar.specs.declared.class.Spot.TheVariants.{Fresh, Last, Range}
 use Rattle.grammar.specs.declared.class.Passed.{Passed}
-use Rattle.grammar.specs.Sets.{in_set}
 use Rattle.grammar.specs.Grammar.{Sign, plain, escaped, Member, one, range, every, letter, sign, value, member, members, caret, GoodSign, GoodMember, GoodMembers}
 use Rattle.grammar.specs.Classes.{in_member, in_members, in_class, unless, after_escape, passes, listed_on, listed, taken, complemented, members_of, Opens, Tests}
 use Rattle.grammar.proofs.Told.{is_mark, is_set, unlike, mark_low, unmarked_low}
@@ -114,9 +114,13 @@ module _ (c : ℕ) where
         class_none negated (m ∷ ms) (members_none (m ∷ ms) (h.first, h.others)) ∙ ap (λ t. in_class t (m ∷ ms) c) h.same
 
 -- ===== the class that is held is the one that is written
-pub empty_plain : (bs : List ℕ) → length bs ≡ 0 → complemented bs ≡ false
-empty_plain [] h = refl
-empty_plain (b ∷ bs) h = absurd (omega arith)
+and_same : (t : Bool) → (t && true) ≡ t
+and_same true = refl
+and_same false = refl
+
+pub caret_first : (bs : List ℕ) → pointwise eqb (take 1 bs) (94 ∷ []) ≡ complemented bs
+caret_first [] = refl
+caret_first (b ∷ bs) = and_same (eqb b 94)
 
 turn_read : (turn : Bool) (m : Member) (bs : List ℕ) → GoodMember m → complemented (caret turn (member m bs)) ≡ turn
 turn_read true m bs h = refl

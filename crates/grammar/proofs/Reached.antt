@@ -1,5 +1,5 @@
 -- Every state that is reached has some end that may follow. Assumes nothing.
-use Rattle.std.proofs.Common.{◌≡◌, ℕ, zero, suc, ◌-◌, ◌≤◌, Bool, true, false, cond, ◌&&◌, eqb, ltb, List, [], ◌∷◌, None, Option, refl, subst, inl, arith}
+use Rattle.std.proofs.Common.{◌≡◌, ℕ, zero, suc, ◌-◌, ◌≤◌, Bool, true, false, cond, ◌&&◌, eqb, ltb, List, [], ◌∷◌, None, Option, refl, subst, inl, arith, Some}
 use Rattle.std.proofs.lemmas.Bool.{ltb-true, and_parts}
 use Rattle.chars.specs.Sets.{between}
 use Rattle.chars.proofs.Wide.{Owes}
@@ -16,7 +16,7 @@ use Rattle.grammar.specs.declared.reader.State.{State}
 use Rattle.grammar.specs.Bytes.{kind_of, inside_of, escaped_of}
 use Rattle.grammar.specs.Grammar.{once, Item, closes}
 use Rattle.grammar.specs.Grammar.{written, Good}
-use Rattle.grammar.specs.Reader.{at, outside, first, within, last, upper, escape, class_escape, range_escape, owed, moved, next}
+use Rattle.grammar.specs.Reader.{outside, first, within, last, upper, escape, class_escape, range_escape, owed, moved, next, to}
 use Rattle.grammar.proofs.Rests.{After, Members, First, Rest, Rests, SoundMode, Sound}
 use Rattle.grammar.proofs.Told.{Told, told}
 
@@ -38,100 +38,100 @@ owes_end : (L : List ℕ → Type 0) → (t : List ℕ) × L t → (n lo hi : �
 owes_end L a zero lo hi h = (lo ∷ a.0, (omega arith, h, a.1))
 owes_end L a (suc n) lo hi h = let r = owes_end L a n 128 191 (omega arith) in (lo ∷ r.0, (omega arith, h, r.1))
 
-module _ (g d : ℕ) where
-  after_end : After g d (written (shut d))
-  after_end = (once, shut d, good_shut g d, refl)
+module _ (now : State) where
+  after_end : After now (written (shut now.depth))
+  after_end = (once, shut now.depth, good_shut now.groups now.depth, refl)
 
-  members_end : Members g d (93 ∷ written (shut d))
-  members_end = ([], once, shut d, tt, good_shut g d, refl)
+  members_end : Members now (93 ∷ written (shut now.depth))
+  members_end = ([], once, shut now.depth, tt, good_shut now.groups now.depth, refl)
 
-  first_end : First g d (97 ∷ 93 ∷ written (shut d))
+  first_end : First now (97 ∷ 93 ∷ written (shut now.depth))
   first_end = inl (refl, inl members_end)
 
-  end_of : (m : Mode) → SoundMode m → (t : List ℕ) × Rest g d m t
-  end_of (Plain true) h = (written (shut d), after_end)
-  end_of (Plain false) h = (written (shut d), (shut d, good_shut g d, refl))
-  end_of Escape h = (46 ∷ written (shut d), inl (refl, after_end))
-  end_of (Owing o) h = owes_end (After g d) (written (shut d), after_end) o.more o.low o.high h
-  end_of ClassOpen h = (97 ∷ 93 ∷ written (shut d), inl first_end)
-  end_of ClassFirst h = (97 ∷ 93 ∷ written (shut d), first_end)
-  end_of Class h = (93 ∷ written (shut d), members_end)
-  end_of (ClassLast lo) h = (93 ∷ written (shut d), inl members_end)
-  end_of ClassEscape h = (46 ∷ 93 ∷ written (shut d), inl (refl, inl members_end))
-  end_of (Range lo) h = (127 ∷ 93 ∷ written (shut d), inl (refl, h, members_end))
-  end_of (RangeEscape lo) h = (126 ∷ 93 ∷ written (shut d), (refl, h, members_end))
+  end_of : (m : Mode) → SoundMode m → (t : List ℕ) × Rest now m t
+  end_of (Plain true) h = (written (shut now.depth), after_end)
+  end_of (Plain false) h = (written (shut now.depth), (shut now.depth, good_shut now.groups now.depth, refl))
+  end_of Escape h = (46 ∷ written (shut now.depth), inl (refl, after_end))
+  end_of (Owing o) h = owes_end (After now) (written (shut now.depth), after_end) o.more o.low o.high h
+  end_of ClassOpen h = (97 ∷ 93 ∷ written (shut now.depth), inl first_end)
+  end_of ClassFirst h = (97 ∷ 93 ∷ written (shut now.depth), first_end)
+  end_of Class h = (93 ∷ written (shut now.depth), members_end)
+  end_of (ClassLast lo) h = (93 ∷ written (shut now.depth), inl members_end)
+  end_of ClassEscape h = (46 ∷ 93 ∷ written (shut now.depth), inl (refl, inl members_end))
+  end_of (Range lo) h = (127 ∷ 93 ∷ written (shut now.depth), inl (refl, h, members_end))
+  end_of (RangeEscape lo) h = (126 ∷ 93 ∷ written (shut now.depth), (refl, h, members_end))
 
 -- ===== the states that are reached
-module _ (g d : ℕ) (h : (d ≤ g) × (g ≤ 15)) where
-  kept_outside : (t : Bool) (q : Kind) (b : ℕ) → Told q b → Kept Sound (outside g d t q)
-  kept_outside t k.Bare b e = (h, tt)
-  kept_outside t (k.Lead o) b e = (h, (e).1)
-  kept_outside t k.Bar b e = kept_if (eqb d 0) _ (λ _. (h, tt))
-  kept_outside t k.Open b e = kept_if (ltb g 15 && ltb d 15) _ (λ u. ((omega arith, omega (arith, ltb-true g 15 (and_parts (ltb g 15) (ltb d 15) u).0)), tt))
-  kept_outside t k.Close b e = kept_if (ltb 0 d) _ (λ u. ((omega arith, omega arith), tt))
-  kept_outside t k.Start b e = (h, tt)
-  kept_outside t k.End b e = (h, tt)
-  kept_outside t k.Dot b e = (h, tt)
-  kept_outside t k.Repeat b e = kept_if t _ (λ _. (h, tt))
-  kept_outside t k.Backslash b e = (h, tt)
-  kept_outside t k.Bracket b e = (h, tt)
-  kept_outside t k.Wrong b e = tt
+module _ (now : State) (h : (now.depth ≤ now.groups) × (now.groups ≤ 15)) where
+  kept_outside : (t : Bool) (q : Option Kind) (b : ℕ) → Told q b → Kept Sound (outside now t q)
+  kept_outside t (Some k.Bare) b e = (h, tt)
+  kept_outside t (Some (k.Lead o)) b e = (h, (e).1)
+  kept_outside t (Some k.Bar) b e = kept_if (eqb now.depth 0) _ (λ _. (h, tt))
+  kept_outside t (Some k.Open) b e = kept_if (ltb now.groups 15 && ltb now.depth 15) _ (λ u. ((omega arith, omega (arith, ltb-true now.groups 15 (and_parts (ltb now.groups 15) (ltb now.depth 15) u).0)), tt))
+  kept_outside t (Some k.Close) b e = kept_if (ltb 0 now.depth) _ (λ u. ((omega arith, omega arith), tt))
+  kept_outside t (Some k.Start) b e = (h, tt)
+  kept_outside t (Some k.End) b e = (h, tt)
+  kept_outside t (Some k.Dot) b e = (h, tt)
+  kept_outside t (Some k.Repeat) b e = kept_if t _ (λ _. (h, tt))
+  kept_outside t (Some k.Backslash) b e = (h, tt)
+  kept_outside t (Some k.Bracket) b e = (h, tt)
+  kept_outside t None b e = tt
 
-  kept_first : (q : Inside) (b : ℕ) → Kept Sound (first g d b q)
-  kept_first i.Bare b = (h, tt)
-  kept_first i.Backslash b = (h, tt)
-  kept_first i.Shut b = tt
-  kept_first i.Dash b = tt
-  kept_first i.Wrong b = tt
+  kept_first : (q : Option Inside) (b : ℕ) → Kept Sound (first now b q)
+  kept_first (Some i.Bare) b = (h, tt)
+  kept_first (Some i.Backslash) b = (h, tt)
+  kept_first (Some i.Shut) b = tt
+  kept_first (Some i.Dash) b = tt
+  kept_first None b = tt
 
-  kept_within : (q : Inside) (b : ℕ) → Kept Sound (within g d b q)
-  kept_within i.Bare b = (h, tt)
-  kept_within i.Backslash b = (h, tt)
-  kept_within i.Shut b = (h, tt)
-  kept_within i.Dash b = tt
-  kept_within i.Wrong b = tt
+  kept_within : (q : Option Inside) (b : ℕ) → Kept Sound (within now b q)
+  kept_within (Some i.Bare) b = (h, tt)
+  kept_within (Some i.Backslash) b = (h, tt)
+  kept_within (Some i.Shut) b = (h, tt)
+  kept_within (Some i.Dash) b = tt
+  kept_within None b = tt
 
-  kept_last : (lo : ℕ) (q : Inside) (b : ℕ) → Kept Sound (last g d lo b q)
-  kept_last lo i.Bare b = (h, tt)
-  kept_last lo i.Backslash b = (h, tt)
-  kept_last lo i.Shut b = (h, tt)
-  kept_last lo i.Dash b = kept_if (ltb lo 127) _ (λ u. (h, ltb-true lo 127 u))
-  kept_last lo i.Wrong b = tt
+  kept_last : (lo : ℕ) (q : Option Inside) (b : ℕ) → Kept Sound (last now lo b q)
+  kept_last lo (Some i.Bare) b = (h, tt)
+  kept_last lo (Some i.Backslash) b = (h, tt)
+  kept_last lo (Some i.Shut) b = (h, tt)
+  kept_last lo (Some i.Dash) b = kept_if (ltb lo 127) _ (λ u. (h, ltb-true lo 127 u))
+  kept_last lo None b = tt
 
-  kept_upper : (lo : ℕ) (q : Inside) (b : ℕ) → Kept Sound (upper g d lo b q)
-  kept_upper lo i.Bare b = kept_if (ltb lo b) _ (λ _. (h, tt))
-  kept_upper lo i.Backslash b = kept_if (ltb lo 126) _ (λ u. (h, ltb-true lo 126 u))
-  kept_upper lo i.Shut b = tt
-  kept_upper lo i.Dash b = tt
-  kept_upper lo i.Wrong b = tt
+  kept_upper : (lo : ℕ) (q : Option Inside) (b : ℕ) → Kept Sound (upper now lo b q)
+  kept_upper lo (Some i.Bare) b = kept_if (ltb lo b) _ (λ _. (h, tt))
+  kept_upper lo (Some i.Backslash) b = kept_if (ltb lo 126) _ (λ u. (h, ltb-true lo 126 u))
+  kept_upper lo (Some i.Shut) b = tt
+  kept_upper lo (Some i.Dash) b = tt
+  kept_upper lo None b = tt
 
-  kept_escape : (q : Escaped) → Kept Sound (escape g d q)
-  kept_escape e.Mark = (h, tt)
-  kept_escape e.Digit = (h, tt)
-  kept_escape (e.Set s) = (h, tt)
-  kept_escape e.Wrong = tt
+  kept_escape : (q : Option Escaped) → Kept Sound (escape now q)
+  kept_escape (Some e.Mark) = (h, tt)
+  kept_escape (Some e.Digit) = (h, tt)
+  kept_escape (Some (e.Set s)) = (h, tt)
+  kept_escape None = tt
 
-  kept_in : (q : Escaped) (b : ℕ) → Kept Sound (class_escape g d b q)
-  kept_in e.Mark b = (h, tt)
-  kept_in e.Digit b = tt
-  kept_in (e.Set s) b = (h, tt)
-  kept_in e.Wrong b = tt
+  kept_in : (q : Option Escaped) (b : ℕ) → Kept Sound (class_escape now b q)
+  kept_in (Some e.Mark) b = (h, tt)
+  kept_in (Some e.Digit) b = tt
+  kept_in (Some (e.Set s)) b = (h, tt)
+  kept_in None b = tt
 
-  kept_range : (lo : ℕ) (q : Escaped) (b : ℕ) → Kept Sound (range_escape g d lo b q)
-  kept_range lo e.Mark b = kept_if (ltb lo b) _ (λ _. (h, tt))
-  kept_range lo e.Digit b = tt
-  kept_range lo (e.Set s) b = tt
-  kept_range lo e.Wrong b = tt
+  kept_range : (lo : ℕ) (q : Option Escaped) (b : ℕ) → Kept Sound (range_escape now lo b q)
+  kept_range lo (Some e.Mark) b = kept_if (ltb lo b) _ (λ _. (h, tt))
+  kept_range lo (Some e.Digit) b = tt
+  kept_range lo (Some (e.Set s)) b = tt
+  kept_range lo None b = tt
 
-  kept_owed : (n : ℕ) → Kept Sound (at g d (owed n))
+  kept_owed : (n : ℕ) → Kept Sound (to now (owed n))
   kept_owed zero = (h, tt)
   kept_owed (suc n) = (h, omega arith)
 
-  kept_open : (t : Bool) (b : ℕ) → Kept Sound (cond t (at g d ClassFirst) (first g d b (inside_of b)))
+  kept_open : (t : Bool) (b : ℕ) → Kept Sound (cond t (to now ClassFirst) (first now b (inside_of b)))
   kept_open true b = (h, tt)
   kept_open false b = kept_first (inside_of b) b
 
-  kept : (m : Mode) (b : ℕ) → Kept Sound (moved g d m b)
+  kept : (m : Mode) (b : ℕ) → Kept Sound (moved now m b)
   kept (Plain t) b = kept_outside t (kind_of b) b (told b)
   kept Escape b = kept_escape (escaped_of b)
   kept (Owing o) b = kept_if (between o.low o.high b) _ (λ _. kept_owed o.more)
@@ -144,7 +144,7 @@ module _ (g d : ℕ) (h : (d ≤ g) × (g ≤ 15)) where
   kept (RangeEscape lo) b = kept_range lo (escaped_of b) b
 
 pub alive : (s : State) → Sound s → (t : List ℕ) × Rests s t
-alive s h = end_of s.groups s.depth s.mode h.1
+alive s h = end_of s s.mode h.1
 
 pub keeps : (s : State) → Sound s → (b : ℕ) → Kept Sound (next s b)
-keeps s h b = kept s.groups s.depth h.0 s.mode b
+keeps s h b = kept s h.0 s.mode b

@@ -4,21 +4,21 @@ use Rattle.chars.specs.Sets.{digit}
 use Rattle.chars.specs.Marks.{mark, unmarked}
 use Rattle.chars.proofs.Wide.{Owes}
 use Rattle.matcher.proofs.Longest.{From}
-use Rattle.grammar.specs.declared.set.Set.{Set}
+use Rattle.chars.specs.declared.sets.Set.{Set}
 use Rattle.grammar.specs.declared.reader.Mode.{Mode}
 use Rattle.grammar.specs.declared.reader.Mode.TheVariants.{Plain, Escape, Owing, ClassOpen, ClassFirst, Class, ClassLast, ClassEscape, Range, RangeEscape}
 use Rattle.grammar.specs.declared.reader.State.{State}
 use Rattle.grammar.specs.Grammar.{Member, Times, Item, letter, member, members, times, written, GoodMember, GoodMembers, Good, LegalFrom}
 
--- g pairs have been opened, and d of them are open
-module _ (g d : ℕ) where
+-- what may follow, whatever the mode
+module _ (now : State) where
   -- a repeat, perhaps, and more items
   abbrev pub After : List ℕ → Type 0
-  After bs = (t : Times) × (is : List Item) × Good g d is × (times t (written is) ≡ bs)
+  After bs = (t : Times) × (is : List Item) × Good now.groups now.depth is × (times t (written is) ≡ bs)
 
   -- more members, the end of the class, and what follows it
   abbrev pub Members : List ℕ → Type 0
-  Members bs = (ms : List Member) × (t : Times) × (is : List Item) × GoodMembers ms × Good g d is × (members ms (93 ∷ times t (written is)) ≡ bs)
+  Members bs = (ms : List Member) × (t : Times) × (is : List Item) × GoodMembers ms × Good now.groups now.depth is × (members ms (93 ∷ times t (written is)) ≡ bs)
 
   -- a member first
   abbrev pub Headed : List ℕ → Type 0
@@ -52,11 +52,11 @@ module _ (g d : ℕ) where
 
   abbrev pub Escaping : List ℕ → Type 0
   Escaping [] = ⊥
-  Escaping (b ∷ cs) = ((mark b ≡ true) × After cs) ⊎ (((digit b ≡ true) × LegalFrom g d cs) ⊎ ((s : Set) × (letter s ≡ b) × After cs))
+  Escaping (b ∷ cs) = ((mark b ≡ true) × After cs) ⊎ (((digit b ≡ true) × LegalFrom now.groups now.depth cs) ⊎ ((s : Set) × (letter s ≡ b) × After cs))
 
   abbrev pub Rest : Mode → List ℕ → Type 0
   Rest (Plain true) bs = After bs
-  Rest (Plain false) bs = LegalFrom g d bs
+  Rest (Plain false) bs = LegalFrom now.groups now.depth bs
   Rest Escape bs = Escaping bs
   Rest (Owing o) bs = Owes o.more o.low o.high After bs
   Rest ClassOpen bs = Opened bs
@@ -68,7 +68,7 @@ module _ (g d : ℕ) where
   Rest (RangeEscape lo) bs = UpperEscaped lo bs
 
 abbrev pub Rests : State → List ℕ → Type 0
-Rests s bs = Rest s.groups s.depth s.mode bs
+Rests s bs = Rest s s.mode bs
 
 abbrev pub FromRest : Option State → List ℕ → Type 0
 FromRest o bs = From Rests o bs

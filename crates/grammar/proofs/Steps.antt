@@ -80,7 +80,7 @@ owes_long (suc n) lo hi cs (b ∷ bs) h = let e = owes_long n 128 191 cs bs h.2 
 
 -- x begins a character of n more bytes after the next one
 abbrev pub Leads : ℕ → ℕ → Type 0
-Leads x n = (o : Owed) × (kind_of x ≡ k.Lead o) × (o.more ≡ n)
+Leads x n = (o : Owed) × (kind_of x ≡ Some (k.Lead o)) × (o.more ≡ n)
 
 leads_by : (x n : ℕ) (cs bs : List ℕ) → length bs ≡ suc (n + length cs) → 128 ≤ x → (o : Option Owed) → lead_of x ≡ o → Following (λ t. t ≡ cs) o bs → Leads x n
 leads_by x n cs bs long high None e h = absurd h

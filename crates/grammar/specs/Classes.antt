@@ -1,13 +1,12 @@
 -- Which characters a class takes. Assumes nothing.
-use Rattle.std.specs.Prelude.{◌≡◌, ℕ, ◌≤◌, Bool, true, false, cond, not, ◌||◌, List, [], ◌∷◌, drop, ◌==◌, slice_index}
-use Rattle.chars.specs.Sets.{between}
+use Rattle.std.specs.Prelude.{◌≡◌, ℕ, ◌≤◌, Bool, true, false, cond, not, ◌||◌, List, [], ◌∷◌, drop, ◌==◌, slice_index, Some, None, Option}
+use Rattle.chars.specs.Sets.{between, in_set}
 use Rattle.grammar.specs.declared.bytes.Escaped.{Escaped}
 use Rattle.grammar.specs.declared.bytes.Escaped.TheVariants as e
 use Rattle.grammar.specs.declared.class.Spot.{Spot}
 use Rattle.grammar.specs.declared.class.Spot.TheVariants.{Fresh, Escape, Last, Range, RangeEscape}
 use Rattle.grammar.specs.declared.class.Passed.{Passed}
 use Rattle.grammar.specs.declared.class.Passed.TheVariants.{Taken, Shut, On}
-use Rattle.grammar.specs.Sets.{in_set}
 use Rattle.grammar.specs.Bytes.{escaped_of}
 use Rattle.grammar.specs.Grammar.{Member, one, range, every, class, value, member, members, piece, GoodMember, GoodMembers}
 
@@ -36,11 +35,11 @@ single c b = unless (c == b) (Last b)
 abbrev pub fresh : ℕ → ℕ → Passed
 fresh c b = cond (b == 92) (On Escape) (cond (b == 93) Shut (single c b))
 
-abbrev pub after_escape : ℕ → ℕ → Escaped → Passed
-after_escape c b e.Mark = single c b
-after_escape c b e.Digit = single c b
-after_escape c b (e.Set s) = unless (in_set s c) Fresh
-after_escape c b e.Wrong = single c b
+abbrev pub after_escape : ℕ → ℕ → Option Escaped → Passed
+after_escape c b (Some e.Mark) = single c b
+after_escape c b (Some e.Digit) = single c b
+after_escape c b (Some (e.Set s)) = unless (in_set s c) Fresh
+after_escape c b None = single c b
 
 abbrev pub up_to : ℕ → ℕ → ℕ → Passed
 up_to c low b = unless (between low b c) Fresh

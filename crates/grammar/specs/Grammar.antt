@@ -3,8 +3,8 @@ use Rattle.std.specs.Prelude.{◌≡◌, ℕ, ◌+◌, ◌-◌, ◌<◌, ◌≤�
 use Rattle.std.proofs.Math.Utf8.{scalar, encode}
 use Rattle.chars.specs.Sets.{digit}
 use Rattle.chars.specs.Marks.{mark, unmarked, bare}
-use Rattle.grammar.specs.declared.set.Set.{Set}
-use Rattle.grammar.specs.declared.set.Set.TheVariants.{Digits, Words, Spaces}
+use Rattle.chars.specs.declared.sets.Set.{Set}
+use Rattle.chars.specs.declared.sets.Set.TheVariants.{Digits, Words, Spaces}
 
 -- a character of a class, bare or with its backslash
 pub data Sign : Type 0 where

@@ -1,5 +1,5 @@
 -- The items of an expression, read one at a time from its bytes. Assumes nothing.
-use Rattle.std.specs.Prelude.{◌≡◌, ℕ, ◌+◌, Bool, true, false, cond, List, [], ◌∷◌, drop, ◌==◌, nat_lt, slice_index}
+use Rattle.std.specs.Prelude.{◌≡◌, ℕ, ◌+◌, Bool, true, false, cond, List, [], ◌∷◌, drop, ◌==◌, nat_lt, slice_index, Some, None, Option}
 use Rattle.grammar.specs.declared.bytes.Kind.{Kind}
 use Rattle.grammar.specs.declared.bytes.Kind.TheVariants as k
 use Rattle.grammar.specs.declared.bytes.Escaped.{Escaped}
@@ -28,30 +28,30 @@ repeated_as p bs =
     (cond (slice_index bs 0 == 43) (Take p t.Some, drop 1 bs)
     (Take p t.Once, bs)))
 
-abbrev pub escaped_by : Escaped → ℕ → List ℕ → Item × List ℕ
-escaped_by e.Mark b bs = repeated_as (Char b) bs
-escaped_by e.Digit b bs = (Never, bs)
-escaped_by (e.Set s) b bs = repeated_as (Set s) bs
-escaped_by e.Wrong b bs = (Never, bs)
+abbrev pub escaped_by : Option Escaped → ℕ → List ℕ → Item × List ℕ
+escaped_by (Some e.Mark) b bs = repeated_as (Char b) bs
+escaped_by (Some e.Digit) b bs = (Never, bs)
+escaped_by (Some (e.Set s)) b bs = repeated_as (Set s) bs
+escaped_by None b bs = (Never, bs)
 
 -- after a backslash
 abbrev pub escaped_as : List ℕ → Item × List ℕ
 escaped_as bs = escaped_by (escaped_of (slice_index bs 0)) (slice_index bs 0) (drop 1 bs)
 
 -- the item that begins with a byte b of this kind, before bs
-abbrev pub item_by : Kind → ℕ → List ℕ → Item × List ℕ
-item_by k.Bare b bs = repeated_as (Char b) bs
-item_by (k.Lead o) b bs = repeated_as (Wide o.more) (drop (o.more + 1) bs)
-item_by k.Bar b bs = (Bar, bs)
-item_by k.Open b bs = (Open, bs)
-item_by k.Close b bs = (Close, bs)
-item_by k.Start b bs = (Start, bs)
-item_by k.End b bs = (End, bs)
-item_by k.Dot b bs = repeated_as Any bs
-item_by k.Repeat b bs = (Never, bs)
-item_by k.Backslash b bs = escaped_as bs
-item_by k.Bracket b bs = repeated_as Class (shut_of false bs)
-item_by k.Wrong b bs = (Never, bs)
+abbrev pub item_by : Option Kind → ℕ → List ℕ → Item × List ℕ
+item_by (Some k.Bare) b bs = repeated_as (Char b) bs
+item_by (Some (k.Lead o)) b bs = repeated_as (Wide o.more) (drop (o.more + 1) bs)
+item_by (Some k.Bar) b bs = (Bar, bs)
+item_by (Some k.Open) b bs = (Open, bs)
+item_by (Some k.Close) b bs = (Close, bs)
+item_by (Some k.Start) b bs = (Start, bs)
+item_by (Some k.End) b bs = (End, bs)
+item_by (Some k.Dot) b bs = repeated_as Any bs
+item_by (Some k.Repeat) b bs = (Never, bs)
+item_by (Some k.Backslash) b bs = escaped_as bs
+item_by (Some k.Bracket) b bs = repeated_as Class (shut_of false bs)
+item_by None b bs = (Never, bs)
 
 -- the first item of bs, and what follows it
 abbrev pub item_of : List ℕ → Item × List ℕ

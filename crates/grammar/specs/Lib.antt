@@ -1,4 +1,3 @@
-pub mod Sets
 pub mod Bytes
 pub mod Grammar
 pub mod Reader

@@ -16,11 +16,11 @@ sign_at bs = cond (slice_index bs 0 == 92) (escaped (slice_index bs 1), drop 2 b
 abbrev pub ranged : Sign → List ℕ → Member × List ℕ
 ranged a bs = cond (slice_index bs 0 == 45) (range a (sign_at (drop 1 bs)).0, (sign_at (drop 1 bs)).1) (one a, bs)
 
-abbrev pub escaped_member : Escaped → ℕ → List ℕ → Member × List ℕ
-escaped_member e.Mark c bs = ranged (escaped c) bs
-escaped_member e.Digit c bs = (one (plain 0), bs)
-escaped_member (e.Set s) c bs = (every s, bs)
-escaped_member e.Wrong c bs = (one (plain 0), bs)
+abbrev pub escaped_member : Option Escaped → ℕ → List ℕ → Member × List ℕ
+escaped_member (Some e.Mark) c bs = ranged (escaped c) bs
+escaped_member (Some e.Digit) c bs = (one (plain 0), bs)
+escaped_member (Some (e.Set s)) c bs = (every s, bs)
+escaped_member None c bs = (one (plain 0), bs)
 
 -- the first member of a class, and what follows it
 abbrev pub member_at : List ℕ → Member × List ℕ
@@ -49,26 +49,26 @@ wide_at zero b bs = (b - 192) * 64 + (slice_index bs 0 - 128)
 wide_at (suc zero) b bs = (b - 224) * 4096 + (slice_index bs 0 - 128) * 64 + (slice_index bs 1 - 128)
 wide_at (suc (suc n)) b bs = (b - 240) * 262144 + (slice_index bs 0 - 128) * 4096 + (slice_index bs 1 - 128) * 64 + (slice_index bs 2 - 128)
 
-abbrev pub escaped_part : Escaped → ℕ → List ℕ → Item × List ℕ
-escaped_part e.Mark c bs = timed (marked c) bs
-escaped_part e.Digit c bs = (never c, bs)
-escaped_part (e.Set s) c bs = timed (set s) bs
-escaped_part e.Wrong c bs = (bar, bs)
+abbrev pub escaped_part : Option Escaped → ℕ → List ℕ → Item × List ℕ
+escaped_part (Some e.Mark) c bs = timed (marked c) bs
+escaped_part (Some e.Digit) c bs = (never c, bs)
+escaped_part (Some (e.Set s)) c bs = timed (set s) bs
+escaped_part None c bs = (bar, bs)
 
 -- the item that begins with a byte b of this kind, before bs
-abbrev pub part : Kind → ℕ → List ℕ → Item × List ℕ
-part k.Bare b bs = timed (char b) bs
-part (k.Lead o) b bs = timed (wide (wide_at o.more b bs)) (drop (o.more + 1) bs)
-part k.Bar b bs = (bar, bs)
-part k.Open b bs = (opens, bs)
-part k.Close b bs = (closes, bs)
-part k.Start b bs = (start, bs)
-part k.End b bs = (end, bs)
-part k.Dot b bs = timed any bs
-part k.Repeat b bs = (bar, bs)
-part k.Backslash b bs = escaped_part (escaped_of (slice_index bs 0)) (slice_index bs 0) (drop 1 bs)
-part k.Bracket b bs = cond (slice_index bs 0 == 94) (timed (class_at true (drop 1 bs)) (shut_of false bs)) (timed (class_at false bs) (shut_of false bs))
-part k.Wrong b bs = (bar, bs)
+abbrev pub part : Option Kind → ℕ → List ℕ → Item × List ℕ
+part (Some k.Bare) b bs = timed (char b) bs
+part (Some (k.Lead o)) b bs = timed (wide (wide_at o.more b bs)) (drop (o.more + 1) bs)
+part (Some k.Bar) b bs = (bar, bs)
+part (Some k.Open) b bs = (opens, bs)
+part (Some k.Close) b bs = (closes, bs)
+part (Some k.Start) b bs = (start, bs)
+part (Some k.End) b bs = (end, bs)
+part (Some k.Dot) b bs = timed any bs
+part (Some k.Repeat) b bs = (bar, bs)
+part (Some k.Backslash) b bs = escaped_part (escaped_of (slice_index bs 0)) (slice_index bs 0) (drop 1 bs)
+part (Some k.Bracket) b bs = cond (slice_index bs 0 == 94) (timed (class_at true (drop 1 bs)) (shut_of false bs)) (timed (class_at false bs) (shut_of false bs))
+part None b bs = (bar, bs)
 
 -- the first item of bs, and what follows it
 abbrev pub part_at : List ℕ → Item × List ℕ

@@ -1,7 +1,8 @@
 -- The reader, a byte at a time. Assumes nothing.
-use Rattle.std.specs.Prelude.{ℕ, zero, suc, ◌+◌, ◌-◌, Bool, true, false, cond, ◌&&◌, List, Some, None, Option, ◌==◌, nat_lt}
+use Rattle.std.specs.Prelude.{ℕ, ◌+◌, ◌-◌, Bool, true, false, cond, ◌&&◌, List, Some, None, Option, ◌==◌, nat_lt}
+use Rattle.std.specs.Option.{option_map, unwrap_or}
 use Rattle.chars.specs.declared.leads.Owed.{Owed}
-use Rattle.chars.specs.Sets.{between}
+use Rattle.chars.specs.Leads.{goes_on, rest_of}
 use Rattle.matcher.specs.Refusals.{refuses}
 use Rattle.grammar.specs.declared.bytes.Kind.{Kind}
 use Rattle.grammar.specs.declared.bytes.Kind.TheVariants as k
@@ -18,95 +19,104 @@ use Rattle.grammar.specs.Bytes.{kind_of, inside_of, escaped_of}
 abbrev pub at : ℕ → ℕ → Mode → Option State
 at g d m = Some (record { groups = g; depth = d; mode = m })
 
--- between items; t: a repeat may follow. The depth d never passes g
-abbrev pub outside : ℕ → ℕ → Bool → Kind → Option State
-outside g d t k.Bare = at g d (Plain true)
-outside g d t (k.Lead o) = at g d (Owing o)
-outside g d t k.Bar = cond (d == 0) (at g d (Plain false)) None
-outside g d t k.Open = cond (nat_lt g 15 && nat_lt d 15) (at (g + 1) (d + 1) (Plain false)) None
-outside g d t k.Close = cond (nat_lt 0 d) (at g (d - 1) (Plain false)) None
-outside g d t k.Start = at g d (Plain false)
-outside g d t k.End = at g d (Plain false)
-outside g d t k.Dot = at g d (Plain true)
-outside g d t k.Repeat = cond t (at g d (Plain false)) None
-outside g d t k.Backslash = at g d Escape
-outside g d t k.Bracket = at g d ClassOpen
-outside g d t k.Wrong = None
+-- the same pairs, in another mode
+abbrev pub to : State → Mode → Option State
+to s m = at s.groups s.depth m
+
+abbrev pub opened : State → Option State
+opened s = cond (nat_lt s.groups 15 && nat_lt s.depth 15) (at (s.groups + 1) (s.depth + 1) (Plain false)) None
+
+abbrev pub closed : State → Option State
+closed s = cond (nat_lt 0 s.depth) (at s.groups (s.depth - 1) (Plain false)) None
+
+-- between items; t: a repeat may follow. The depth never passes the number of groups
+abbrev pub outside : State → Bool → Option Kind → Option State
+outside s t (Some k.Bare) = to s (Plain true)
+outside s t (Some (k.Lead o)) = to s (Owing o)
+outside s t (Some k.Bar) = cond (s.depth == 0) (to s (Plain false)) None
+outside s t (Some k.Open) = opened s
+outside s t (Some k.Close) = closed s
+outside s t (Some k.Start) = to s (Plain false)
+outside s t (Some k.End) = to s (Plain false)
+outside s t (Some k.Dot) = to s (Plain true)
+outside s t (Some k.Repeat) = cond t (to s (Plain false)) None
+outside s t (Some k.Backslash) = to s Escape
+outside s t (Some k.Bracket) = to s ClassOpen
+outside s t None = None
 
 -- the first member of a class
-abbrev pub first : ℕ → ℕ → ℕ → Inside → Option State
-first g d b i.Bare = at g d (ClassLast b)
-first g d b i.Backslash = at g d ClassEscape
-first g d b i.Shut = None
-first g d b i.Dash = None
-first g d b i.Wrong = None
+abbrev pub first : State → ℕ → Option Inside → Option State
+first s b (Some i.Bare) = to s (ClassLast b)
+first s b (Some i.Backslash) = to s ClassEscape
+first s b (Some i.Shut) = None
+first s b (Some i.Dash) = None
+first s b None = None
 
 -- after a member that begins no range
-abbrev pub within : ℕ → ℕ → ℕ → Inside → Option State
-within g d b i.Bare = at g d (ClassLast b)
-within g d b i.Backslash = at g d ClassEscape
-within g d b i.Shut = at g d (Plain true)
-within g d b i.Dash = None
-within g d b i.Wrong = None
+abbrev pub within : State → ℕ → Option Inside → Option State
+within s b (Some i.Bare) = to s (ClassLast b)
+within s b (Some i.Backslash) = to s ClassEscape
+within s b (Some i.Shut) = to s (Plain true)
+within s b (Some i.Dash) = None
+within s b None = None
 
 -- after the character lo: no ASCII character is above 127
-abbrev pub last : ℕ → ℕ → ℕ → ℕ → Inside → Option State
-last g d lo b i.Bare = at g d (ClassLast b)
-last g d lo b i.Backslash = at g d ClassEscape
-last g d lo b i.Shut = at g d (Plain true)
-last g d lo b i.Dash = cond (nat_lt lo 127) (at g d (Range lo)) None
-last g d lo b i.Wrong = None
+abbrev pub last : State → ℕ → ℕ → Option Inside → Option State
+last s lo b (Some i.Bare) = to s (ClassLast b)
+last s lo b (Some i.Backslash) = to s ClassEscape
+last s lo b (Some i.Shut) = to s (Plain true)
+last s lo b (Some i.Dash) = cond (nat_lt lo 127) (to s (Range lo)) None
+last s lo b None = None
 
 -- after the dash of a range from lo: no mark is above 126
-abbrev pub upper : ℕ → ℕ → ℕ → ℕ → Inside → Option State
-upper g d lo b i.Bare = cond (nat_lt lo b) (at g d Class) None
-upper g d lo b i.Backslash = cond (nat_lt lo 126) (at g d (RangeEscape lo)) None
-upper g d lo b i.Shut = None
-upper g d lo b i.Dash = None
-upper g d lo b i.Wrong = None
+abbrev pub upper : State → ℕ → ℕ → Option Inside → Option State
+upper s lo b (Some i.Bare) = cond (nat_lt lo b) (to s Class) None
+upper s lo b (Some i.Backslash) = cond (nat_lt lo 126) (to s (RangeEscape lo)) None
+upper s lo b (Some i.Shut) = None
+upper s lo b (Some i.Dash) = None
+upper s lo b None = None
 
 -- after a backslash: outside of a class, in it, and at the upper end of a range
-abbrev pub escape : ℕ → ℕ → Escaped → Option State
-escape g d e.Mark = at g d (Plain true)
-escape g d e.Digit = at g d (Plain false)
-escape g d (e.Set s) = at g d (Plain true)
-escape g d e.Wrong = None
+abbrev pub escape : State → Option Escaped → Option State
+escape s (Some e.Mark) = to s (Plain true)
+escape s (Some e.Digit) = to s (Plain false)
+escape s (Some (e.Set x)) = to s (Plain true)
+escape s None = None
 
-abbrev pub class_escape : ℕ → ℕ → ℕ → Escaped → Option State
-class_escape g d b e.Mark = at g d (ClassLast b)
-class_escape g d b e.Digit = None
-class_escape g d b (e.Set s) = at g d Class
-class_escape g d b e.Wrong = None
+abbrev pub class_escape : State → ℕ → Option Escaped → Option State
+class_escape s b (Some e.Mark) = to s (ClassLast b)
+class_escape s b (Some e.Digit) = None
+class_escape s b (Some (e.Set x)) = to s Class
+class_escape s b None = None
 
-abbrev pub range_escape : ℕ → ℕ → ℕ → ℕ → Escaped → Option State
-range_escape g d lo b e.Mark = cond (nat_lt lo b) (at g d Class) None
-range_escape g d lo b e.Digit = None
-range_escape g d lo b (e.Set s) = None
-range_escape g d lo b e.Wrong = None
+abbrev pub range_escape : State → ℕ → ℕ → Option Escaped → Option State
+range_escape s lo b (Some e.Mark) = cond (nat_lt lo b) (to s Class) None
+range_escape s lo b (Some e.Digit) = None
+range_escape s lo b (Some (e.Set x)) = None
+range_escape s lo b None = None
 
 -- so many bytes are owed yet
 abbrev pub owed : ℕ → Mode
-owed zero = Plain true
-owed (suc n) = Owing (record { more = n; low = 128; high = 191 })
+owed n = unwrap_or (option_map Owing (rest_of n)) (Plain true)
 
-abbrev pub owing : ℕ → ℕ → Owed → ℕ → Option State
-owing g d o b = cond (between o.low o.high b) (at g d (owed o.more)) None
+abbrev pub owing : State → Owed → ℕ → Option State
+owing s o b = cond (goes_on o b) (to s (owed o.more)) None
 
-abbrev pub moved : ℕ → ℕ → Mode → ℕ → Option State
-moved g d (Plain t) b = outside g d t (kind_of b)
-moved g d Escape b = escape g d (escaped_of b)
-moved g d (Owing o) b = owing g d o b
-moved g d ClassOpen b = cond (b == 94) (at g d ClassFirst) (first g d b (inside_of b))
-moved g d ClassFirst b = first g d b (inside_of b)
-moved g d Class b = within g d b (inside_of b)
-moved g d (ClassLast lo) b = last g d lo b (inside_of b)
-moved g d ClassEscape b = class_escape g d b (escaped_of b)
-moved g d (Range lo) b = upper g d lo b (inside_of b)
-moved g d (RangeEscape lo) b = range_escape g d lo b (escaped_of b)
+abbrev pub moved : State → Mode → ℕ → Option State
+moved s (Plain t) b = outside s t (kind_of b)
+moved s Escape b = escape s (escaped_of b)
+moved s (Owing o) b = owing s o b
+moved s ClassOpen b = cond (b == 94) (to s ClassFirst) (first s b (inside_of b))
+moved s ClassFirst b = first s b (inside_of b)
+moved s Class b = within s b (inside_of b)
+moved s (ClassLast lo) b = last s lo b (inside_of b)
+moved s ClassEscape b = class_escape s b (escaped_of b)
+moved s (Range lo) b = upper s lo b (inside_of b)
+moved s (RangeEscape lo) b = range_escape s lo b (escaped_of b)
 
 -- the state after one byte more
 abbrev pub next : State → ℕ → Option State
-next s b = moved s.groups s.depth s.mode b
+next s b = moved s s.mode b
 
 abbrev pub ends : Mode → Bool
 ends (Plain t) = true

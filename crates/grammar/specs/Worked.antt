@@ -1,6 +1,6 @@
 -- Worked examples of the definitions. Assumes nothing.
 use Rattle.std.specs.Prelude.{◌≡◌, true, false, [], ◌∷◌, Some, None, codes}
-use Rattle.grammar.specs.declared.set.Set.TheVariants.{Digits, Spaces}
+use Rattle.chars.specs.declared.sets.Set.TheVariants.{Digits, Spaces}
 use Rattle.grammar.specs.declared.items.Piece.TheVariants.{Char, Wide, Set, Class}
 use Rattle.grammar.specs.declared.items.Times.TheVariants as t
 use Rattle.grammar.specs.declared.items.Item.TheVariants.{Take, Never}

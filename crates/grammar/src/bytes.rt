@@ -1,14 +1,13 @@
 // What a byte of an expression is, by where it stands.
 ghost use Rattle.std.specs.Prelude.{◌≡◌};
-ghost use Rattle.grammar.specs.Bytes.{leads, kind_of, inside_of as inside_of_spec, set_of as set_of_spec, escaped_of as escaped_of_spec};
+ghost use Rattle.grammar.specs.Bytes.{kind_of, inside_of as inside_of_spec, set_of as set_of_spec, escaped_of as escaped_of_spec};
 
-use crate::set::Set;
 use chars::leads::{Owed, lead_of};
 use chars::marks::{is_bare, is_mark};
-use chars::sets::is_digit;
+use chars::sets::Set;
 
 // Outside of a class.
-#[derive(Clone, Copy)]
+#[derive(Clone, Copy, Debug, PartialEq, Eq)]
 pub enum Kind {
     Bare,
     Lead(Owed),
@@ -21,92 +20,82 @@ pub enum Kind {
     Repeat,
     Backslash,
     Bracket,
-    Wrong,
 }
 
 // In a class.
-#[derive(Clone, Copy)]
+#[derive(Clone, Copy, Debug, PartialEq, Eq)]
 pub enum Inside {
     Bare,
     Backslash,
     Shut,
     Dash,
-    Wrong,
 }
 
 // After a backslash.
-#[derive(Clone, Copy)]
+#[derive(Clone, Copy, Debug, PartialEq, Eq)]
 pub enum Escaped {
     Mark,
     Digit,
     Set(Set),
-    Wrong,
 }
 
-// The first byte of a longer character, or one that begins none.
-fn lead_kind(b: u8) -> Kind
-    ensures { result ≡ leads b }
-{
-    match lead_of(b) {
-        Some(owed) => Kind::Lead(owed),
-        None => Kind::Wrong,
-    }
-}
-
-pub fn kind_of(b: u8) -> Kind
+// None where nothing begins with the byte.
+pub fn kind_of(b: u8) -> Option<Kind>
     ensures { result ≡ kind_of b }
 {
     if is_bare(b) {
-        return Kind::Bare;
+        return Some(Kind::Bare);
     }
     match b {
-        b'|' => Kind::Bar,
-        b'(' => Kind::Open,
-        b')' => Kind::Close,
-        b'^' => Kind::Start,
-        b'$' => Kind::End,
-        b'.' => Kind::Dot,
-        b'?' | b'*' | b'+' => Kind::Repeat,
-        b'\\' => Kind::Backslash,
-        b'[' => Kind::Bracket,
-        _ => lead_kind(b),
+        b'|' => Some(Kind::Bar),
+        b'(' => Some(Kind::Open),
+        b')' => Some(Kind::Close),
+        b'^' => Some(Kind::Start),
+        b'$' => Some(Kind::End),
+        b'.' => Some(Kind::Dot),
+        b'?' | b'*' | b'+' => Some(Kind::Repeat),
+        b'\\' => Some(Kind::Backslash),
+        b'[' => Some(Kind::Bracket),
+        _ => lead_of(b).map(Kind::Lead),
     }
 }
 
-pub fn inside_of(b: u8) -> Inside
+// None where the byte may not stand there.
+pub fn inside_of(b: u8) -> Option<Inside>
     ensures { result ≡ inside_of_spec b }
 {
     if b < 128 && !is_mark(b) {
-        return Inside::Bare;
+        return Some(Inside::Bare);
     }
     match b {
-        b'\\' => Inside::Backslash,
-        b']' => Inside::Shut,
-        b'-' => Inside::Dash,
-        _ => Inside::Wrong,
+        b'\\' => Some(Inside::Backslash),
+        b']' => Some(Inside::Shut),
+        b'-' => Some(Inside::Dash),
+        _ => None,
     }
 }
 
-// The letter of a set, or no such letter.
-fn set_of(b: u8) -> Escaped
+// The set that the letter names.
+fn set_of(b: u8) -> Option<Set>
     ensures { result ≡ set_of_spec b }
 {
     match b {
-        b'd' => Escaped::Set(Set::Digits),
-        b'w' => Escaped::Set(Set::Words),
-        b's' => Escaped::Set(Set::Spaces),
-        _ => Escaped::Wrong,
+        b'd' => Some(Set::Digits),
+        b'w' => Some(Set::Words),
+        b's' => Some(Set::Spaces),
+        _ => None,
     }
 }
 
-pub fn escaped_of(b: u8) -> Escaped
+// None where no backslash may stand before the byte.
+pub fn escaped_of(b: u8) -> Option<Escaped>
     ensures { result ≡ escaped_of_spec b }
 {
     if is_mark(b) {
-        return Escaped::Mark;
+        return Some(Escaped::Mark);
     }
-    if is_digit(b) {
-        return Escaped::Digit;
+    if Set::Digits.takes(b) {
+        return Some(Escaped::Digit);
     }
-    set_of(b)
+    set_of(b).map(Escaped::Set)
 }

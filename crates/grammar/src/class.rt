@@ -61,7 +61,7 @@ fn after_escape(c: u8, b: u8) -> Passed
     ensures { result ≡ after_escape_spec c b (escaped_of b) }
 {
     match escaped_of(b) {
-        Escaped::Set(set) => unless_taken(set.takes(c), Spot::Fresh),
+        Some(Escaped::Set(set)) => unless_taken(set.takes(c), Spot::Fresh),
         _ => single(c, b),
     }
 }
@@ -107,16 +107,7 @@ fn lists(members: &[u8], c: u8) -> bool
 fn after(bytes: &[u8], i: usize) -> &[u8]
     ensures { result.now ≡ drop (i + 1) bytes.now }
 {
-    let begin = if i < bytes.len() { i + 1 } else { bytes.len() };
-    let (_, rest) = bytes.split_at(begin);
-    rest
-}
-
-// Whether the bytes after `[` begin a complement.
-fn has_caret(bytes: &[u8]) -> bool
-    ensures { result ≡ complemented bytes.now }
-{
-    !bytes.is_empty() && bytes[0] == b'^'
+    &bytes[i.saturating_add(1).min(bytes.len())..]
 }
 
 // A class of an expression. `members` begins with the first member, and the `]` that ends the class stands within it.
@@ -134,16 +125,15 @@ impl<'a> Class<'a> {
         ensures opens { Opens expression.now i result.negated result.members.now }
     {
         let bytes = after(expression, i);
-        if has_caret(bytes) {
-            Class {
+        match bytes.strip_prefix(b"^") {
+            Some(members) => Class {
                 negated: true,
-                members: after(bytes, 0),
-            }
-        } else {
-            Class {
+                members,
+            },
+            None => Class {
                 negated: false,
                 members: bytes,
-            }
+            },
         }
     }
 

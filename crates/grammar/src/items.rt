@@ -3,7 +3,7 @@ ghost use Rattle.std.specs.Prelude.{◌≡◌, ◌<◌, ◌≤◌, false, length
 ghost use Rattle.grammar.specs.Items.{shut_of, repeated_as, escaped_as, item_of, Reads};
 
 use crate::bytes::{Escaped, Kind, escaped_of, kind_of};
-use crate::set::Set;
+use chars::sets::Set;
 
 // What takes one character.
 #[derive(Clone, Copy)]
@@ -120,8 +120,8 @@ fn escaped_at(expression: &[u8], i: usize) -> (Item, usize)
     let b = peek(expression, i, 0);
     let next = skip(expression, i, 1);
     match escaped_of(b) {
-        Escaped::Mark => repeated(expression, next, Piece::Char(b)),
-        Escaped::Set(set) => repeated(expression, next, Piece::Set(set)),
+        Some(Escaped::Mark) => repeated(expression, next, Piece::Char(b)),
+        Some(Escaped::Set(set)) => repeated(expression, next, Piece::Set(set)),
         _ => (Item::Never, next),
     }
 }
@@ -137,21 +137,21 @@ fn first_at(expression: &[u8], i: usize) -> (Item, usize)
     let b = peek(expression, i, 0);
     let next = skip(expression, i, 1);
     match kind_of(b) {
-        Kind::Bare => repeated(expression, next, Piece::Char(b)),
-        Kind::Lead(owed) => repeated(
+        Some(Kind::Bare) => repeated(expression, next, Piece::Char(b)),
+        Some(Kind::Lead(owed)) => repeated(
             expression,
             skip(expression, next, owed.more as usize + 1),
             Piece::Wide(owed.more),
         ),
-        Kind::Bar => (Item::Bar, next),
-        Kind::Open => (Item::Open, next),
-        Kind::Close => (Item::Close, next),
-        Kind::Start => (Item::Start, next),
-        Kind::End => (Item::End, next),
-        Kind::Dot => repeated(expression, next, Piece::Any),
-        Kind::Backslash => escaped_at(expression, next),
-        Kind::Bracket => repeated(expression, class_end(expression, next), Piece::Class),
-        Kind::Repeat | Kind::Wrong => (Item::Never, next),
+        Some(Kind::Bar) => (Item::Bar, next),
+        Some(Kind::Open) => (Item::Open, next),
+        Some(Kind::Close) => (Item::Close, next),
+        Some(Kind::Start) => (Item::Start, next),
+        Some(Kind::End) => (Item::End, next),
+        Some(Kind::Dot) => repeated(expression, next, Piece::Any),
+        Some(Kind::Backslash) => escaped_at(expression, next),
+        Some(Kind::Bracket) => repeated(expression, class_end(expression, next), Piece::Class),
+        Some(Kind::Repeat) | None => (Item::Never, next),
     }
 }
 

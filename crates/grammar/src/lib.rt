@@ -21,4 +21,3 @@ pub mod examples;
 pub mod items;
 pub mod legality;
 mod reader;
-pub mod set;

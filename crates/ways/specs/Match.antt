@@ -4,7 +4,7 @@ use Rattle.std.specs.Prelude.{ℕ, zero, suc, ◌+◌, Bool, true, false, cond, 
 use Rattle.std.specs.Char.{len_utf8}
 use Rattle.std.specs.Str.{chars}
 use Rattle.grammar.specs.Grammar.{Piece, char, wide, marked, any, set, class, Times, once, maybe, many, some, Item, takes, start, end, never, opens, closes, bar}
-use Rattle.grammar.specs.Sets.{in_set}
+use Rattle.chars.specs.Sets.{in_set}
 use Rattle.grammar.specs.Classes.{in_class}
 
 -- the piece takes the character c

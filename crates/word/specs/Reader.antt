@@ -1,16 +1,16 @@
 -- The reader of word expressions, a byte at a time. Assumes nothing.
-use Rattle.std.specs.Prelude.{ℕ, zero, suc, Bool, true, false, cond, ◌||◌, List, Some, None, Option, ◌==◌}
+use Rattle.std.specs.Prelude.{ℕ, Bool, true, false, cond, ◌||◌, List, Some, None, Option, ◌==◌}
+use Rattle.std.specs.Option.{option_map, unwrap_or}
 use Rattle.chars.specs.declared.leads.Owed.{Owed}
-use Rattle.chars.specs.Sets.{between, digit}
+use Rattle.chars.specs.Sets.{digit}
 use Rattle.chars.specs.Marks.{mark, bare}
-use Rattle.chars.specs.Leads.{lead_of}
+use Rattle.chars.specs.Leads.{lead_of, goes_on, rest_of}
 use Rattle.matcher.specs.Refusals.{refuses}
 use Rattle.word.specs.declared.reader.State.{State}
 use Rattle.word.specs.declared.reader.State.TheVariants.{Empty, Filled, Escape, Inside}
 
 abbrev pub lead : Option Owed → Option State
-lead (Some o) = Some (Inside o)
-lead None = None
+lead o = option_map Inside o
 
 -- a character begins with b
 abbrev pub begun : ℕ → Option State
@@ -18,11 +18,10 @@ begun b = cond (bare b) (Some Filled) (cond (b == 92) (Some Escape) (lead (lead_
 
 -- so many bytes are owed yet
 abbrev pub owing : ℕ → State
-owing zero = Filled
-owing (suc n) = Inside (record { more = n; low = 128; high = 191 })
+owing n = unwrap_or (option_map Inside (rest_of n)) Filled
 
 abbrev pub inside : Owed → ℕ → Option State
-inside o b = cond (between o.low o.high b) (Some (owing o.more)) None
+inside o b = cond (goes_on o b) (Some (owing o.more)) None
 
 abbrev pub next : State → ℕ → Option State
 next Empty b = begun b

@@ -4,10 +4,10 @@ ghost use Rattle.word.specs.Reader.{next as next_of, done as done_of, begun as b
 
 use chars::leads::{Owed, lead_of};
 use chars::marks::{is_bare, is_mark};
-use chars::sets::is_digit;
+use chars::sets::Set;
 use matcher::reading::Reader;
 
-#[derive(Clone, Copy)]
+#[derive(Clone, Copy, Debug, PartialEq, Eq)]
 pub enum State {
     // at the begin of a word
     Empty,
@@ -29,28 +29,15 @@ fn begun(b: u8) -> Option<State>
     if b == b'\\' {
         return Some(State::Escape);
     }
-    match lead_of(b) {
-        Some(owed) => Some(State::Inside(owed)),
-        None => None,
-    }
+    lead_of(b).map(State::Inside)
 }
 
 // A character goes on with the byte.
 fn inside(owed: Owed, b: u8) -> Option<State>
     ensures { result ≡ inside_of owed b }
 {
-    if b < owed.low || owed.high < b {
-        return None;
-    }
-    if owed.more == 0 {
-        return Some(State::Filled);
-    }
-    let rest = Owed {
-        more: owed.more - 1,
-        low: 0x80,
-        high: 0xbf,
-    };
-    Some(State::Inside(rest))
+    owed.takes(b)
+        .then_some(owed.rest().map_or(State::Filled, State::Inside))
 }
 
 impl Reader for State {
@@ -63,16 +50,13 @@ impl Reader for State {
             State::Empty => begun(b),
             State::Filled if b == b'|' => Some(State::Empty),
             State::Filled => begun(b),
-            State::Escape if is_mark(b) || is_digit(b) => Some(State::Filled),
+            State::Escape if is_mark(b) || Set::Digits.takes(b) => Some(State::Filled),
             State::Escape => None,
             State::Inside(owed) => inside(owed, b),
         }
     }
 
     fn may_end(self) -> bool {
-        match self {
-            State::Filled => true,
-            _ => false,
-        }
+        matches!(self, State::Filled)
     }
 }

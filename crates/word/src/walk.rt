@@ -3,13 +3,13 @@ ghost use Rattle.std.specs.Prelude.{◌≡◌, ◌≤◌, length};
 ghost use Rattle.word.specs.Meaning.{side, free_before as free_before_spec, free_after as free_after_spec};
 ghost use Rattle.word.specs.Walks.{fresh, bar, letter_at, stepped, end_of, found};
 
-use chars::sets::{is_digit, is_word};
+use chars::sets::Set;
 
 // What may not touch a word on either side.
 pub fn is_side(b: u8) -> bool
     ensures { result ≡ side b }
 {
-    is_word(b)
+    Set::Words.takes(b)
 }
 
 // Nothing touches a word that begins at the place.
@@ -24,11 +24,11 @@ pub fn free_before(line: &[u8], place: usize) -> bool
 fn free_after(line: &[u8], place: usize) -> bool
     ensures { result ≡ free_after_spec line.now place }
 {
-    place >= line.len() || !is_side(line[place])
+    line.get(place).is_none_or(|b| !is_side(*b))
 }
 
 // How far a word of the expression has been read and found in the line.
-#[derive(Clone, Copy)]
+#[derive(Clone, Copy, Debug, PartialEq, Eq)]
 pub struct Walk {
     // after a backslash
     escaped: bool,
@@ -40,10 +40,9 @@ pub struct Walk {
 fn letter(reached: Option<usize>, b: u8, line: &[u8]) -> Option<usize>
     ensures { result ≡ letter_at reached b line.now }
 {
-    match reached {
-        Some(at) if at < line.len() && b.eq_ignore_ascii_case(&line[at]) => Some(at + 1),
-        _ => None,
-    }
+    let at = reached?;
+    let next = line.get(at)?;
+    b.eq_ignore_ascii_case(next).then_some(at + 1)
 }
 
 impl Walk {
@@ -70,11 +69,10 @@ impl Walk {
         if !self.escaped && b == b'\\' {
             return Walk {
                 escaped: true,
-                reached: self.reached,
+                ..self
             };
         }
-        let nowhere = self.escaped && is_digit(b);
-        let reached = if nowhere {
+        let reached = if self.escaped && Set::Digits.takes(b) {
             None
         } else {
             letter(self.reached, b, line)
@@ -89,10 +87,7 @@ impl Walk {
     fn end(self, line: &[u8]) -> Option<usize>
         ensures { result ≡ end_of self.reached line.now }
     {
-        match self.reached {
-            Some(at) if free_after(line, at) => Some(at),
-            _ => None,
-        }
+        self.reached.filter(|at| free_after(line, *at))
     }
 }
 
