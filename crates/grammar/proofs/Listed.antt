@@ -1,7 +1,7 @@
 -- The test of a class, read from its bytes, is that of its members. Assumes nothing.
 use Rattle.std.proofs.Common.{◌≡◌, ℕ, ◌+◌, ◌<◌, ◌≤◌, Bool, true, false, ◌||◌, eqb, leb, List, [], ◌∷◌, length, get_or, drop, sym, refl, ap, ◌∙◌, arith}
 use mathlib.Core.Bool as bool
-use Rattle.std.proofs.lemmas.List.{at_drop_more, at_drop_all, drop-drop}
+use Rattle.std.proofs.lemmas.List.{at_drop_more, at_drop_all}
 use Rattle.std.proofs.lemmas.Bool.{cond-false, eqb-true, ne_eqb, le-leb, and_from}
 use Rattle.std.proofs.lemmas.Bool.Decides.{nat_tests}
 use Rattle.chars.specs.Sets.{between}
@@ -14,6 +14,8 @@ use Rattle.grammar.specs.Sets.{in_set}
 use Rattle.grammar.specs.Grammar.{Sign, plain, escaped, Member, one, range, every, letter, sign, value, member, members, caret, GoodSign, GoodMember, GoodMembers}
 use Rattle.grammar.specs.Classes.{in_member, in_members, in_class, unless, after_escape, passes, listed_on, listed, taken, complemented, members_of, Opens, Tests}
 use Rattle.grammar.proofs.Told.{is_mark, is_set, unlike, mark_low, unmarked_low}
+use Rattle.grammar.specs.Items.{shut_of}
+use Rattle.grammar.proofs.Steps.{member_on, members_shut, class_shut}
 use Rattle.grammar.proofs.Parsed.{NoDash, no_dash, head_no_caret}
 
 -- one byte more of the members
@@ -126,14 +128,15 @@ members_from : (turn : Bool) (m : Member) (bs : List ℕ) → GoodMember m → m
 members_from true m bs h = refl
 members_from false m bs h = cond-false (complemented (member m bs)) (drop 1 (member m bs)) (member m bs) (head_no_caret m bs h)
 
-pub opens : (e : List ℕ) (i : ℕ) (negated : Bool) (bytes : List ℕ) → negated ≡ complemented (drop (i + 1) e) → bytes ≡ members_of (drop (i + 1) e) → Opens e i negated bytes
-opens e i negated bytes is held turn m ms rest a b w =
-    let cs = members ms (93 ∷ rest) in
-    let behind : caret turn (member m cs) ≡ drop (i + 1) e = ap (drop 1) w ∙ drop-drop 1 i e in
-    record {
-      same = is ∙ ap complemented (sym behind) ∙ turn_read turn m cs a;
-      first = a;
-      others = b;
-      rest = rest;
-      written = held ∙ ap members_of (sym behind) ∙ members_from turn m cs a;
-    }
+pub opens : (behind : List ℕ) (negated : Bool) (bytes after : List ℕ) → negated ≡ complemented behind → bytes ≡ members_of behind → after ≡ shut_of false behind → Opens behind negated bytes after
+opens behind negated bytes after is held left turn m ms rest a b w =
+    let cs = members ms (93 ∷ rest) in (
+      record {
+        same = is ∙ ap complemented (sym w) ∙ turn_read turn m cs a;
+        first = a;
+        others = b;
+        rest = rest;
+        written = held ∙ ap members_of (sym w) ∙ members_from turn m cs a;
+      },
+      left ∙ ap (shut_of false) (sym w) ∙ class_shut turn (member m cs) ∙ member_on m cs a ∙ members_shut ms rest b,
+    )

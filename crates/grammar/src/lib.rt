@@ -18,6 +18,7 @@
 mod bytes;
 pub mod class;
 pub mod examples;
+pub mod expression;
 pub mod items;
 pub mod legality;
 mod reader;
