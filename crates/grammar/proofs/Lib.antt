@@ -5,5 +5,6 @@ pub mod Onward
 pub mod Reached
 pub mod Steps
 pub mod Parsed
+pub mod First
 pub mod Judging
 pub mod Listed

@@ -14,30 +14,6 @@ use Rattle.grammar.specs.Grammar.{letter, sign, member, members, caret, piece, t
 use Rattle.grammar.specs.Items.{shut_of}
 use Rattle.grammar.proofs.Told.{is_bare, is_mark, is_digit, is_set, is_lead, unlike, unlike_bare}
 
--- a byte of a class passed
-module _ (e : List ℕ) (j : ℕ) (t : Bool) (r : List ℕ) (lt : j < length e) (inv : shut_of t (drop j e) ≡ r) where
-  one_on_lem : (u : Bool) → t ≡ u → shut_of u (get_or e j 0 ∷ drop (j + 1) e) ≡ r
-  one_on_lem u h = sym (at_drop_more (shut_of u) e j 0 lt) ∙ ap (λ v. shut_of v (drop j e)) (sym h) ∙ inv
-
-  pub past_escaped : t ≡ true → shut_of false (drop (j + 1) e) ≡ r
-  past_escaped h = one_on_lem true h
-
-  pub past_backslash : t ≡ false → get_or e j 0 ≡ 92 → shut_of true (drop (j + 1) e) ≡ r
-  past_backslash h b = sym (cond-true (eqb (get_or e j 0) 92) _ _ (eq-eqb _ 92 b)) ∙ one_on_lem false h
-
-  pub past_shut : t ≡ false → get_or e j 0 ≡ 93 → drop (j + 1) e ≡ r
-  past_shut h b = sym (cond-false (eqb (get_or e j 0) 92) _ _ (ne_eqb _ 92 (λ x. omega arith)) ∙ cond-true (eqb (get_or e j 0) 93) _ _ (eq-eqb _ 93 b)) ∙ one_on_lem false h
-
-  pub past_other : t ≡ false → (get_or e j 0 ≡ 92 → ⊥) → (get_or e j 0 ≡ 93 → ⊥) → shut_of false (drop (j + 1) e) ≡ r
-  past_other h a b = sym (cond-false (eqb (get_or e j 0) 92) _ _ (ne_eqb _ 92 a) ∙ cond-false (eqb (get_or e j 0) 93) _ _ (ne_eqb _ 93 b)) ∙ one_on_lem false h
-
-shut_nil : (t : Bool) → shut_of t [] ≡ []
-shut_nil true = refl
-shut_nil false = refl
-
-pub past_all : (e : List ℕ) (j : ℕ) (t : Bool) (r : List ℕ) → length e ≤ j → shut_of t (drop j e) ≡ r → drop j e ≡ r
-past_all e j t r le inv = drop_all j e le ∙ sym (shut_nil t) ∙ sym (at_drop_all (shut_of t) e j le) ∙ inv
-
 -- ===== the class ends where it is written to end
 plain_on : (c : ℕ) (bs : List ℕ) → unmarked c ≡ true → shut_of false (c ∷ bs) ≡ shut_of false bs
 plain_on c bs h = cond-false (eqb c 92) _ _ (unlike 92 c refl h) ∙ cond-false (eqb c 93) _ _ (unlike 93 c refl h)
@@ -94,7 +70,7 @@ module _ (c : ℕ) (a : 128 ≤ c) (s : scalar c ≡ true) (bs : List ℕ) where
 abbrev pub Unrepeated : List ℕ → Type 0
 Unrepeated bs = (eqb (get_or bs 0 0) 63 ≡ false) × (eqb (get_or bs 0 0) 42 ≡ false) × (eqb (get_or bs 0 0) 43 ≡ false)
 
-high_unlike : (m : ℕ) → m < 128 → (bs : List ℕ) → Begun (λ t. Unit {0}) bs → eqb (get_or bs 0 0) m ≡ false
+pub high_unlike : (m : ℕ) → m < 128 → (bs : List ℕ) → Begun (λ t. Unit {0}) bs → eqb (get_or bs 0 0) m ≡ false
 high_unlike m lt [] h = absurd h
 high_unlike m lt (b ∷ bs) h = ne_eqb b m (λ e. omega (arith, h.0))
 

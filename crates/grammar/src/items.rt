@@ -1,5 +1,6 @@
 // The items of an expression, read one at a time.
-ghost use Rattle.std.specs.Prelude.{◌≡◌, ◌<◌, ◌≤◌, length, IfSome};
+ghost use Rattle.std.specs.Prelude.{◌<◌, ◌≤◌, ◌∷◌, length, IfSome};
+ghost use Rattle.grammar.specs.Parse.{Repeats};
 ghost use Rattle.grammar.specs.Items.{Reads};
 
 use crate::class::Class;
@@ -47,9 +48,36 @@ pub struct Items<'a> {
     pub rest: &'a str,
 }
 
-unsafe extern "C" {
-    safe fn nothing()
-        ensures { ⊥ };
+// What is read behind a piece: how often it is taken.
+fn repeated<'a>(piece: Piece<'a>, rest: &'a str) -> (Item<'a>, Items<'a>)
+    ensures repeats { Repeats piece.entry rest.now result }
+    ensures within { length result.1.rest.now ≤ length rest.now }
+{
+    let mut chars = rest.chars();
+    let (times, rest) = match chars.next() {
+        Some('?') => (Times::Maybe, chars.as_str()),
+        Some('*') => (Times::Many, chars.as_str()),
+        Some('+') => (Times::Some, chars.as_str()),
+        _ => (Times::Once, rest),
+    };
+    (Item::Take(piece, times), Items { rest })
+}
+
+// What is read behind a backslash: a set, a digit, or a mark that stands for itself.
+fn escaped(rest: &str) -> Option<(Item<'_>, Items<'_>)>
+    ensures reads { Reads (92 ∷ rest.now) result }
+    ensures within { IfSome result (λ r. length r.1.rest.now ≤ length rest.now) }
+{
+    let mut chars = rest.chars();
+    let c = chars.next()?;
+    let rest = chars.as_str();
+    Some(match c {
+        'd' => repeated(Piece::Set(Set::Digits), rest),
+        'w' => repeated(Piece::Set(Set::Words), rest),
+        's' => repeated(Piece::Set(Set::Spaces), rest),
+        '0'..='9' => (Item::Never, Items { rest }),
+        _ => repeated(Piece::Char(c), rest),
+    })
 }
 
 impl<'a> Items<'a> {
@@ -58,7 +86,22 @@ impl<'a> Items<'a> {
         ensures reads { Reads self.now.rest.now result }
         ensures onward { IfSome result (λ r. length r.1.rest.now < length self.now.rest.now) }
     {
-        nothing();
-        unreachable!()
+        let mut chars = self.rest.chars();
+        let first = chars.next()?;
+        let rest = chars.as_str();
+        Some(match first {
+            '|' => (Item::Bar, Items { rest }),
+            '(' => (Item::Open, Items { rest }),
+            ')' => (Item::Close, Items { rest }),
+            '^' => (Item::Start, Items { rest }),
+            '$' => (Item::End, Items { rest }),
+            '.' => repeated(Piece::Any, rest),
+            '[' => {
+                let (class, rest) = Class::split(rest);
+                repeated(Piece::Class(class), rest)
+            }
+            '\\' => escaped(rest)?,
+            _ => repeated(Piece::Char(first), rest),
+        })
     }
 }
