@@ -71,11 +71,13 @@ fn escaped(rest: &str) -> Option<(Item<'_>, Items<'_>)>
     let mut chars = rest.chars();
     let c = chars.next()?;
     let rest = chars.as_str();
+    if c.is_ascii_digit() {
+        return Some((Item::Never, Items { rest }));
+    }
     Some(match c {
         'd' => repeated(Piece::Set(Set::Digits), rest),
         'w' => repeated(Piece::Set(Set::Words), rest),
         's' => repeated(Piece::Set(Set::Spaces), rest),
-        '0'..='9' => (Item::Never, Items { rest }),
         _ => repeated(Piece::Char(c), rest),
     })
 }
