@@ -1,9 +1,9 @@
 -- The first item, read from the first character of what is left. Assumes nothing.
-use Rattle.std.proofs.Common.{◌≡◌, ℕ, ◌<◌, ◌≤◌, true, false, eqb, Bor, List, [], ◌∷◌, ◌++◌, length, get_or, drop, Some, None, refl, sym, ap, ◌∙◌, subst, ⊎_elim, arith}
+use Rattle.std.proofs.Common.{◌≡◌, ℕ, ◌<◌, ◌≤◌, true, false, eqb, Bor, List, [], ◌∷◌, ◌++◌, length, get_or, drop, Some, None, Option, refl, sym, ap, ◌∙◌, subst, ⊎_elim, length-append, arith}
 use lib.Utf8.{scalar, encode}
 use Rattle.std.proofs.lemmas.Bool.{true≢false, cond-false, ne_eqb, eqb-false, cases_lt}
 use Rattle.std.proofs.lemmas.Bool.Decides.{nat_tests}
-use Rattle.std.proofs.lemmas.Str.{encode_ascii, encode_same, char_from_byte}
+use Rattle.std.proofs.lemmas.Str.{encode_ascii, encode_same, length-encode, len_utf8_bounds, char_from_byte}
 use Rattle.chars.specs.Sets.{digit}
 use Rattle.chars.specs.Marks.{mark, bare}
 use Rattle.chars.proofs.Wide.{begun}
@@ -236,3 +236,27 @@ pub lone_reads : (bytes : List ℕ) → length bytes ≡ 0 → Reads (92 ∷ byt
 lone_reads bytes h [] w = tt
 lone_reads [] h (y ∷ is) w = no_lone y is w
 lone_reads (b ∷ bs) h (y ∷ is) w = absurd (omega arith)
+
+-- what is read at a character
+module _ (bytes left : List ℕ) (c : ℕ) (e : bytes ≡ encode c ++ left) where
+  full : (m : ℕ) → m < 128 → c ≡ m → length bytes ≡ 0 → ⊥
+  full m low is z = omega (arith, ap length (ascii bytes left c e m low is))
+
+  -- an item of one character
+  pub item_reads : (m : ℕ) → m < 128 → (y : g.Item) → part_at (m ∷ left) ≡ (y, left) → c ≡ m → (x : Item) → IsItem x y → (rest : Bor (List ℕ)) → rest.now ≡ left
+      → (r : Item × Items) → r ≡ (x, record { rest = rest }) → Reads bytes (Some r)
+  item_reads m low y h is x a rest f r t =
+      subst (λ r. Reads bytes (Some r)) (sym t) (reads bytes (x, record { rest = rest }) (y, left) (full m low is) (ap part_at (ascii bytes left c e m low is) ∙ h) a f)
+
+  pub any_reads : c ≡ 46 → (r : Item × Items) → Repeats p.Any left r → Reads bytes (Some r)
+  any_reads is r again = reads_piece bytes p.Any left r (full 46 (omega arith) is) again any refl (ap part_at (ascii bytes left c e 46 (omega arith) is))
+
+  pub class_reads : c ≡ 91 → (k : Class) (after : List ℕ) (r : Item × Items) → Opens left k.negated k.members.now after → Repeats (p.Class k) after r → Reads bytes (Some r)
+  class_reads is k after r held again =
+      reads_each bytes r (full 91 (omega arith) is) (λ o d y is' h w. class_each left k after r held again o d y is' h (w ∙ ascii bytes left c e 91 (omega arith) is))
+
+  pub escape_reads : c ≡ 92 → (r : Option (Item × Items)) → Reads (92 ∷ left) r → Reads bytes r
+  escape_reads is r h = subst (λ l. Reads l r) (sym (ascii bytes left c e 92 (omega arith) is)) h
+
+  pub char_reads : Other c → (r : Item × Items) → Repeats (p.Char c) left r → Reads bytes (Some r)
+  char_reads n r again = reads_each bytes r (λ z. omega (arith, ap length e, length-append (encode c) left, length-encode c, (len_utf8_bounds c).0)) (λ o d y is h w. other_each left c r again n o d y is h (w ∙ e))
