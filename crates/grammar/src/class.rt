@@ -1,5 +1,6 @@
 // A class, and which characters it takes.
-ghost use Rattle.std.specs.Prelude.{◌≡◌, ◌≤◌, length};
+ghost use Rattle.std.specs.Prelude.{◌≡◌, ◌≤◌, false, length};
+ghost use Rattle.grammar.specs.Items.{shut_of};
 ghost use Rattle.grammar.specs.Classes.{unless, fresh as fresh_to, single as single_to, up_to, after_escape as after_escape_spec, passes, listed, taken, Opens, Tests, TestsWide};
 ghost use Rattle.grammar.specs.Bytes.{escaped_of};
 ghost use Rattle.grammar.specs.declared.class.Spot.TheVariants.{Fresh};
@@ -103,9 +104,22 @@ fn lists(members: &[u8], c: u8) -> bool
     false
 }
 
-unsafe extern "C" {
-    safe fn nothing()
-        ensures { ⊥ };
+// What follows the class: it ends at the first `]` that no backslash precedes.
+fn after_class(members: &str) -> &str
+    ensures shut { result.now ≡ shut_of false members.now }
+    ensures within { length result.now ≤ length members.now }
+{
+    let mut chars = members.chars();
+    while let Some(c) = chars.next() {
+        match c {
+            ']' => return chars.as_str(),
+            '\\' => {
+                chars.next();
+            }
+            _ => {}
+        }
+    }
+    chars.as_str()
 }
 
 // A class of an expression. `members` begins with the first member, and the `]` that ends the class stands within it.
@@ -121,8 +135,15 @@ impl<'a> Class<'a> {
         ensures opens { Opens text.now result.0.negated result.0.members.now result.1.now }
         ensures within { length result.1.now ≤ length text.now }
     {
-        nothing();
-        unreachable!()
+        let (negated, members) = match text.strip_prefix('^') {
+            Some(members) => (true, members),
+            None => (false, text),
+        };
+        let class = Class {
+            negated,
+            members: members.as_bytes(),
+        };
+        (class, after_class(members))
     }
 
     // Whether the class takes the ASCII character `c`. Costs at most as many steps as the class has bytes.
