@@ -107,18 +107,18 @@ heads bs cs e = ap (λ l. get_or l 0 0) e
 tails : (bs cs : List ℕ) → bs ≡ cs → drop 1 bs ≡ drop 1 cs
 tails bs cs e = ap (drop 1) e
 
-bare_low : (c : ℕ) → bare c ≡ true → c < 128
+pub bare_low : (c : ℕ) → bare c ≡ true → c < 128
 bare_low c h = ⊎_elim (λ l. l) (λ l. let no : bare c ≡ false = grind (arith, nat_tests) in absurd (true≢false (sym h ∙ no))) (cases_lt c 128)
 
 mark_below : (c : ℕ) → mark c ≡ true → c < 128
 mark_below c h = omega (arith, mark_low c h)
 
-letter_low : (s : Set) → letter s < 128
+pub letter_low : (s : Set) → letter s < 128
 letter_low Digits = omega arith
 letter_low Words = omega arith
 letter_low Spaces = omega arith
 
-digit_low : (c : ℕ) → digit c ≡ true → c < 128
+pub digit_low : (c : ℕ) → digit c ≡ true → c < 128
 digit_low c h = grind (arith, nat_tests)
 
 -- an item that begins with a mark begins so for no other reason than its own

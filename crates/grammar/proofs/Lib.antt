@@ -8,4 +8,5 @@ pub mod Parsed
 pub mod Ends
 pub mod First
 pub mod Judging
+pub mod Text
 pub mod Listed

@@ -3,6 +3,8 @@ ghost use Rattle.std.specs.Prelude.{◌≡◌, Some as Just, None as Neither, Ma
 ghost use Rattle.grammar.specs.Reader.{refusal as refusal_of};
 
 use crate::items::Items;
+use crate::legality::refusal;
+use std::str::from_utf8;
 
 #[derive(Clone, Copy)]
 pub struct Expression<'a> {
@@ -10,18 +12,19 @@ pub struct Expression<'a> {
     ghost legal: { refusal_of text.now ≡ Neither },
 }
 
-unsafe extern "C" {
-    safe fn nothing()
-        ensures { ⊥ };
-}
-
 impl<'a> Expression<'a> {
     // The expression that the bytes spell; if they spell none, the place at which they are refused.
     pub fn new(bytes: &'a [u8]) -> Result<Expression<'a>, usize>
         ensures { MatchResult result (λ e. (e.text.now ≡ bytes.now) × (refusal_of bytes.now ≡ Neither)) (λ k. refusal_of bytes.now ≡ Just k) }
     {
-        nothing();
-        unreachable!()
+        if let Some(place) = refusal(bytes) {
+            return Err(place);
+        }
+        // every item is written in whole characters
+        match from_utf8(bytes) {
+            Ok(text) => Ok(Expression { text }),
+            Err(_) => unreachable!(),
+        }
     }
 
     // Its items, all of them.
