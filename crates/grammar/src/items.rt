@@ -1,7 +1,8 @@
 // The items of an expression, read one at a time.
 ghost use Rattle.std.specs.Prelude.{◌<◌, ◌≤◌, ◌∷◌, length, IfSome};
 ghost use Rattle.grammar.specs.Parse.{Repeats};
-ghost use Rattle.grammar.specs.Items.{Reads};
+ghost use Rattle.std.specs.Iterator.{at_most};
+ghost use Rattle.grammar.specs.Items.{Reads, Yields};
 
 use crate::class::Class;
 use crate::set::Set;
@@ -105,5 +106,19 @@ impl<'a> Items<'a> {
             '\\' => escaped(rest)?,
             _ => repeated(Piece::Char(first), rest),
         })
+    }
+}
+
+impl<'a> Iterator for Items<'a> {
+    type Item = Item<'a>;
+
+    ghost next_gives = { Yields };
+
+    ghost remaining = { λ s. at_most (length s.rest.now) };
+
+    fn next(&mut self) -> Option<Item<'a>> {
+        let (first, others) = self.split_first()?;
+        *self = others;
+        Some(first)
     }
 }
