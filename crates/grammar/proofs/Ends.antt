@@ -1,7 +1,7 @@
 -- What follows a class, read a character at a time. Assumes nothing.
 use Rattle.std.proofs.Common.{◌≡◌, ℕ, ◌+◌, ◌/◌, ◌<◌, ◌≤◌, Bool, true, false, eqb, List, [], ◌∷◌, ◌++◌, length, None, Some, Option, sym, refl, ap, ◌∙◌, ⊎_elim, length-append, arith}
 use lib.Utf8.{encode, next}
-use Rattle.std.proofs.lemmas.Bool.{cond-true, cond-false, eq-eqb, ne_eqb, cases_lt}
+use Rattle.std.proofs.lemmas.Bool.{cond-false, ne_eqb, cases_lt}
 use Rattle.std.proofs.lemmas.Str.{encode_ascii}
 use Rattle.chars.proofs.Wide.{two, three, four}
 use Rattle.std.specs.declared.str.Chars.{Chars}
@@ -39,9 +39,6 @@ past_all t (b ∷ bs) h = absurd (omega arith)
 module _ (bytes rest : List ℕ) (c : ℕ) (e : bytes ≡ encode c ++ rest) where
   ascii_at : (m : ℕ) → m < 128 → c ≡ m → (t : Bool) → shut_of t bytes ≡ shut_of t (m ∷ rest)
   ascii_at m low is t = ap (shut_of t) (e ∙ ap (λ (n : ℕ). encode n ++ rest) is ∙ ap (λ l. l ++ rest) (encode_ascii m low))
-
-  pub past_shut : c ≡ 93 → shut_of false bytes ≡ rest
-  past_shut is = ascii_at 93 (omega arith) is false
 
   pub past_backslash : c ≡ 92 → shut_of false bytes ≡ shut_of true rest
   past_backslash is = ascii_at 92 (omega arith) is false

@@ -1,18 +1,17 @@
 -- Items read one at a time. Assumes nothing.
-use Rattle.std.proofs.Common.{◌≡◌, ℕ, zero, suc, ◌+◌, ◌-◌, ◌/◌, ◌<◌, ◌≤◌, Bool, true, false, eqb, ltb, List, [], ◌∷◌, ◌++◌, length, get_or, drop, Some, None, Option, sym, refl, ap, ◌∙◌, subst, ⊎_elim, arith}
+use Rattle.std.proofs.Common.{◌≡◌, ℕ, zero, suc, ◌+◌, ◌-◌, ◌/◌, ◌<◌, ◌≤◌, Bool, true, false, eqb, ltb, List, [], ◌∷◌, ◌++◌, length, get_or, Some, None, Option, refl, ap, ◌∙◌, subst, arith}
 use lib.Utf8.{scalar, encode, next}
-use Rattle.std.proofs.lemmas.List.{at_drop_more, at_drop_all, drop_all}
-use Rattle.std.proofs.lemmas.Bool.{cond_both, cond-true, cond-false, eq-eqb, ne_eqb, lt-ltb, le-ltb, cases_lt}
+use Rattle.std.proofs.lemmas.Bool.{cond_both, cond-false, ne_eqb}
 use Rattle.chars.specs.declared.leads.Owed.{Owed}
 use Rattle.chars.specs.Marks.{unmarked}
 use Rattle.chars.specs.Leads.{lead_of}
 use Rattle.chars.proofs.Wide.{two, three, four, Owes, Following, Begun, begun}
 use Rattle.grammar.specs.declared.bytes.Kind.TheVariants as k
 use Rattle.grammar.specs.Bytes.{led_by, kind_of}
-use Rattle.grammar.specs.Grammar.{Sign, plain, escaped, Member, one, range, every, Piece, char, wide, marked, any, set, class, Times, once, maybe, many, some, Item, takes, start, end, never, opens, closes, bar}
-use Rattle.grammar.specs.Grammar.{letter, sign, member, members, caret, piece, times, item, written, GoodSign, GoodMember, GoodMembers, GoodPiece, Good}
+use Rattle.grammar.specs.Grammar.{Sign, plain, escaped, Member, one, range, every, char, wide, marked, any, set, class, Item, takes, start, end, never, opens, closes, bar}
+use Rattle.grammar.specs.Grammar.{sign, member, members, caret, times, item, written, GoodSign, GoodMember, GoodMembers, Good}
 use Rattle.grammar.specs.Items.{shut_of}
-use Rattle.grammar.proofs.Told.{is_bare, is_mark, is_digit, is_set, is_lead, unlike, unlike_bare}
+use Rattle.grammar.proofs.Told.{is_lead, unlike, unlike_bare}
 
 -- ===== the class ends where it is written to end
 plain_on : (c : ℕ) (bs : List ℕ) → unmarked c ≡ true → shut_of false (c ∷ bs) ≡ shut_of false bs

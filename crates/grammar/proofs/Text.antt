@@ -1,10 +1,9 @@
 -- A legal expression is UTF-8. Assumes nothing.
-use Rattle.std.proofs.Common.{◌≡◌, ℕ, zero, suc, ◌<◌, ◌≤◌, Bool, true, false, List, [], ◌∷◌, ◌++◌, subst, arith}
-use lib.Utf8.{scalar, encode}
+use Rattle.std.proofs.Common.{ℕ, zero, suc, ◌<◌, Bool, true, false, List, [], ◌∷◌, subst, arith}
+use lib.Utf8.{encode}
 use Rattle.std.specs.Str.{IsUtf8, IsAscii}
 use Rattle.std.proofs.lemmas.Str.{IsUtf8-append, IsUtf8-nil, IsUtf8-encode, IsUtf8-from_ascii}
 use Rattle.grammar.specs.declared.set.Set.{Set}
-use Rattle.grammar.specs.declared.set.Set.TheVariants.{Digits, Words, Spaces}
 use Rattle.grammar.specs.Grammar.{Sign, plain, escaped, Member, one, range, every, Piece, char, wide, marked, any, set, class, Times, once, maybe, many, some, Item, takes, start, end, never, opens, closes, bar}
 use Rattle.grammar.specs.Grammar.{letter, sign, member, members, caret, piece, times, item, written, GoodSign, GoodMember, GoodMembers, GoodPiece, Good, LegalFrom}
 use Rattle.grammar.proofs.Told.{mark_low, unmarked_low}

@@ -46,9 +46,13 @@ timed p bs =
     (cond (slice_index bs 0 == 43) (takes p some, drop 1 bs)
     (takes p once, bs)))
 
--- a piece that was read is taken as often as is written behind it, and what follows is left
+-- this item was read, and these bytes are left
+abbrev pub Read : ItemRead × Items → Item × List ℕ → Type 0
+Read r p = IsItem r.0 p.0 × (r.1.rest.now ≡ p.1)
+
+-- the piece x is taken as often as is written behind it
 abbrev pub Repeats : PieceRead → List ℕ → ItemRead × Items → Type 0
-Repeats x bytes r = (p : Piece) → IsPiece x p → IsItem r.0 (timed p bytes).0 × (r.1.rest.now ≡ (timed p bytes).1)
+Repeats x bytes r = (p : Piece) → IsPiece x p → Read r (timed p bytes)
 
 -- the character whose first byte is b, which n more bytes than one follow
 abbrev pub wide_at : ℕ → ℕ → List ℕ → ℕ

@@ -1,4 +1,4 @@
-use Rattle.std.proofs.Common.{◌≡◌, length, sym, ◌∙◌, arith}
+use Rattle.std.proofs.Common.{sym, ◌∙◌, arith}
 use Rattle.grammar.proofs.Ends.{past_backslash, past_other, past_next, no_longer}
 use Rattle.grammar.proofs.class.after_class.Goals as goal
 
