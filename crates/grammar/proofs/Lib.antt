@@ -5,5 +5,8 @@ pub mod Onward
 pub mod Reached
 pub mod Steps
 pub mod Parsed
+pub mod Ends
+pub mod First
 pub mod Judging
+pub mod Text
 pub mod Listed

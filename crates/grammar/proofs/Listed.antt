@@ -1,19 +1,24 @@
 -- The test of a class, read from its bytes, is that of its members. Assumes nothing.
-use Rattle.std.proofs.Common.{◌≡◌, ℕ, ◌+◌, ◌<◌, ◌≤◌, Bool, true, false, ◌&&◌, ◌||◌, eqb, leb, List, [], ◌∷◌, length, get_or, take, drop, sym, refl, ap, ◌∙◌, arith}
+use Rattle.std.proofs.Common.{◌≡◌, ℕ, ◌+◌, ◌<◌, ◌≤◌, Bool, true, false, ◌||◌, eqb, leb, List, [], ◌∷◌, ◌++◌, length, get_or, drop, sym, refl, ap, ◌∙◌, arith}
+use lib.Utf8.{encode}
 use mathlib.Core.Bool as bool
-use lib.Pointwise.{pointwise}
-use Rattle.std.proofs.lemmas.List.{at_drop_more, at_drop_all, drop-drop}
+use Rattle.std.proofs.lemmas.List.{at_drop_more, at_drop_all}
 use Rattle.std.proofs.lemmas.Bool.{cond-false, eqb-true, ne_eqb, le-leb, and_from}
 use Rattle.std.proofs.lemmas.Bool.Decides.{nat_tests}
-use Rattle.chars.specs.Sets.{between, in_set}
+use Rattle.std.proofs.lemmas.Str.{encode_ascii}
+use Rattle.chars.specs.Sets.{between}
 use Rattle.chars.specs.declared.sets.Set.{Set}
 use Rattle.chars.specs.declared.sets.Set.TheVariants.{Digits, Words, Spaces}
 use Rattle.grammar.specs.declared.class.Spot.{Spot}
 use Rattle.grammar.specs.declared.class.Spot.TheVariants.{Fresh, Last, Range}
 use Rattle.grammar.specs.declared.class.Passed.{Passed}
+use Rattle.chars.specs.Sets.{in_set}
+use Rattle.grammar.specs.Grammar as g
 use Rattle.grammar.specs.Grammar.{Sign, plain, escaped, Member, one, range, every, letter, sign, value, member, members, caret, GoodSign, GoodMember, GoodMembers}
 use Rattle.grammar.specs.Classes.{in_member, in_members, in_class, unless, after_escape, passes, listed_on, listed, taken, complemented, members_of, Opens, Tests}
 use Rattle.grammar.proofs.Told.{is_mark, is_set, unlike, mark_low, unmarked_low}
+use Rattle.grammar.specs.Items.{shut_of}
+use Rattle.grammar.proofs.Steps.{member_on, members_shut, class_shut}
 use Rattle.grammar.proofs.Parsed.{NoDash, no_dash, head_no_caret}
 
 -- one byte more of the members
@@ -114,13 +119,20 @@ module _ (c : ℕ) where
         class_none negated (m ∷ ms) (members_none (m ∷ ms) (h.first, h.others)) ∙ ap (λ t. in_class t (m ∷ ms) c) h.same
 
 -- ===== the class that is held is the one that is written
-and_same : (t : Bool) → (t && true) ≡ t
-and_same true = refl
-and_same false = refl
+-- what stands behind `[`: whether it is a caret, and where the members begin
+abbrev pub Seen : List ℕ → Bool → List ℕ → Type 0
+Seen text negated members = (negated ≡ complemented text) × (members ≡ members_of text) × (shut_of false members ≡ shut_of false text)
 
-pub caret_first : (bs : List ℕ) → pointwise eqb (take 1 bs) (94 ∷ []) ≡ complemented bs
-caret_first [] = refl
-caret_first (b ∷ bs) = and_same (eqb b 94)
+pub seen : (text members : List ℕ) → text ≡ encode 94 ++ members → Seen text true members
+seen text members h =
+    let e = h ∙ ap (λ l. l ++ members) (encode_ascii 94 (omega arith)) in (sym (ap complemented e), sym (ap members_of e), sym (ap (shut_of false) e))
+
+plain_head : (text : List ℕ) → ((rest : List ℕ) → text ≡ encode 94 ++ rest → ⊥) → complemented text ≡ false
+plain_head [] h = refl
+plain_head (b ∷ bs) h = ne_eqb b 94 (λ e. h bs (ap (λ (n : ℕ). n ∷ bs) e ∙ ap (λ l. l ++ bs) (sym (encode_ascii 94 (omega arith)))))
+
+pub unseen : (text : List ℕ) → ((rest : List ℕ) → text ≡ encode 94 ++ rest → ⊥) → Seen text false text
+unseen text h = let e = plain_head text h in (sym e, sym (cond-false (complemented text) (drop 1 text) text e), refl)
 
 turn_read : (turn : Bool) (m : Member) (bs : List ℕ) → GoodMember m → complemented (caret turn (member m bs)) ≡ turn
 turn_read true m bs h = refl
@@ -130,14 +142,15 @@ members_from : (turn : Bool) (m : Member) (bs : List ℕ) → GoodMember m → m
 members_from true m bs h = refl
 members_from false m bs h = cond-false (complemented (member m bs)) (drop 1 (member m bs)) (member m bs) (head_no_caret m bs h)
 
-pub opens : (e : List ℕ) (i : ℕ) (negated : Bool) (bytes : List ℕ) → negated ≡ complemented (drop (i + 1) e) → bytes ≡ members_of (drop (i + 1) e) → Opens e i negated bytes
-opens e i negated bytes is held turn m ms rest a b w =
-    let cs = members ms (93 ∷ rest) in
-    let behind : caret turn (member m cs) ≡ drop (i + 1) e = ap (drop 1) w ∙ drop-drop 1 i e in
-    record {
-      same = is ∙ ap complemented (sym behind) ∙ turn_read turn m cs a;
-      first = a;
-      others = b;
-      rest = rest;
-      written = held ∙ ap members_of (sym behind) ∙ members_from turn m cs a;
-    }
+pub opens : (behind members : List ℕ) (negated : Bool) (after : List ℕ) → Seen behind negated members → after ≡ shut_of false members → Opens behind negated members after
+opens behind members negated after s end turn m ms rest a b w =
+    let cs = g.members ms (93 ∷ rest) in (
+      record {
+        same = s.0 ∙ ap complemented (sym w) ∙ turn_read turn m cs a;
+        first = a;
+        others = b;
+        rest = rest;
+        written = s.1 ∙ ap members_of (sym w) ∙ members_from turn m cs a;
+      },
+      end ∙ s.2 ∙ ap (shut_of false) (sym w) ∙ class_shut turn (member m cs) ∙ member_on m cs a ∙ members_shut ms rest b,
+    )

@@ -172,7 +172,7 @@ wide_read c a s bs = ⊎_elim
     (cases_lt c 2048)
 
 module _ (g d : ℕ) where
-  timed_read : (p : Piece) (u : Times) (is : List Item) → Good g d is → timed p (times u (written is)) ≡ (takes p u, written is)
+  pub timed_read : (p : Piece) (u : Times) (is : List Item) → Good g d is → timed p (times u (written is)) ≡ (takes p u, written is)
   timed_read p once is h =
       let n = unrepeated g d is h in
       cond-false (eqb (get_or (written is) 0 0) 63) _ _ n.0 ∙ cond-false (eqb (get_or (written is) 0 0) 42) _ _ n.1 ∙ cond-false (eqb (get_or (written is) 0 0) 43) _ _ n.2
@@ -188,7 +188,7 @@ module _ (g d : ℕ) where
   part_piece (set s) u is a h = ap (λ q. escaped_part q (letter s) (times u (written is))) (is_set s) ∙ timed_read (set s) u is h
   part_piece (class not m ms) u is a h = bracket_read not m ms (times u (written is)) a.0 a.1 ∙ timed_read (class not m ms) u is h
 
-  part_read : (x : Item) (is : List Item) → Good g d (x ∷ is) → part_at (item x (written is)) ≡ (x, written is)
+  pub part_read : (x : Item) (is : List Item) → Good g d (x ∷ is) → part_at (item x (written is)) ≡ (x, written is)
   part_read (takes p u) is h = part_piece p u is h.0 h.1
   part_read start is h = refl
   part_read end is h = refl

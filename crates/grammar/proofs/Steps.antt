@@ -1,45 +1,17 @@
 -- Items read one at a time. Assumes nothing.
-use Rattle.std.proofs.Common.{◌≡◌, ℕ, zero, suc, ◌+◌, ◌-◌, ◌/◌, ◌<◌, ◌≤◌, Bool, true, false, eqb, ltb, List, [], ◌∷◌, ◌++◌, length, get_or, drop, Some, None, Option, sym, refl, ap, ◌∙◌, subst, ⊎_elim, arith}
+use Rattle.std.proofs.Common.{◌≡◌, ℕ, zero, suc, ◌+◌, ◌-◌, ◌/◌, ◌<◌, ◌≤◌, Bool, true, false, eqb, ltb, List, [], ◌∷◌, ◌++◌, length, get_or, Some, None, Option, refl, ap, ◌∙◌, subst, arith}
 use lib.Utf8.{scalar, encode, next}
-use Rattle.std.proofs.lemmas.List.{at_drop_more, at_drop_all, drop_all}
-use Rattle.std.proofs.lemmas.Bool.{cond_both, cond-true, cond-false, eq-eqb, ne_eqb, lt-ltb, le-ltb, cases_lt}
+use Rattle.std.proofs.lemmas.Bool.{cond_both, cond-false, ne_eqb}
 use Rattle.chars.specs.declared.leads.Owed.{Owed}
 use Rattle.chars.specs.Marks.{unmarked}
 use Rattle.chars.specs.Leads.{lead_of}
 use Rattle.chars.proofs.Wide.{two, three, four, Owes, Following, Begun, begun}
 use Rattle.grammar.specs.declared.bytes.Kind.TheVariants as k
-use Rattle.grammar.specs.declared.items.Piece.TheVariants.{Char, Wide, Any, Set, Class}
-use Rattle.grammar.specs.declared.items.Piece.{Piece as Token}
-use Rattle.grammar.specs.declared.items.Item.TheVariants.{Take}
 use Rattle.grammar.specs.Bytes.{led_by, kind_of}
-use Rattle.grammar.specs.Grammar.{Sign, plain, escaped, Member, one, range, every, Piece, char, wide, marked, any, set, class, Times, once, maybe, many, some, Item, takes, start, end, never, opens, closes, bar}
-use Rattle.grammar.specs.Grammar.{letter, sign, member, members, caret, piece, times, item, written, GoodSign, GoodMember, GoodMembers, GoodPiece, Good}
-use Rattle.grammar.specs.Items.{shut_of, repeated_as, escaped_by, item_by, item_of, more, piece_of, times_of, token_of}
-use Rattle.grammar.proofs.Told.{is_bare, is_mark, is_digit, is_set, is_lead, unlike, unlike_bare}
-
--- a byte of a class passed
-module _ (e : List ℕ) (j : ℕ) (t : Bool) (r : List ℕ) (lt : j < length e) (inv : shut_of t (drop j e) ≡ r) where
-  one_on_lem : (u : Bool) → t ≡ u → shut_of u (get_or e j 0 ∷ drop (j + 1) e) ≡ r
-  one_on_lem u h = sym (at_drop_more (shut_of u) e j 0 lt) ∙ ap (λ v. shut_of v (drop j e)) (sym h) ∙ inv
-
-  pub past_escaped : t ≡ true → shut_of false (drop (j + 1) e) ≡ r
-  past_escaped h = one_on_lem true h
-
-  pub past_backslash : t ≡ false → get_or e j 0 ≡ 92 → shut_of true (drop (j + 1) e) ≡ r
-  past_backslash h b = sym (cond-true (eqb (get_or e j 0) 92) _ _ (eq-eqb _ 92 b)) ∙ one_on_lem false h
-
-  pub past_shut : t ≡ false → get_or e j 0 ≡ 93 → drop (j + 1) e ≡ r
-  past_shut h b = sym (cond-false (eqb (get_or e j 0) 92) _ _ (ne_eqb _ 92 (λ x. omega arith)) ∙ cond-true (eqb (get_or e j 0) 93) _ _ (eq-eqb _ 93 b)) ∙ one_on_lem false h
-
-  pub past_other : t ≡ false → (get_or e j 0 ≡ 92 → ⊥) → (get_or e j 0 ≡ 93 → ⊥) → shut_of false (drop (j + 1) e) ≡ r
-  past_other h a b = sym (cond-false (eqb (get_or e j 0) 92) _ _ (ne_eqb _ 92 a) ∙ cond-false (eqb (get_or e j 0) 93) _ _ (ne_eqb _ 93 b)) ∙ one_on_lem false h
-
-shut_nil : (t : Bool) → shut_of t [] ≡ []
-shut_nil true = refl
-shut_nil false = refl
-
-pub past_all : (e : List ℕ) (j : ℕ) (t : Bool) (r : List ℕ) → length e ≤ j → shut_of t (drop j e) ≡ r → drop j e ≡ r
-past_all e j t r le inv = drop_all j e le ∙ sym (shut_nil t) ∙ sym (at_drop_all (shut_of t) e j le) ∙ inv
+use Rattle.grammar.specs.Grammar.{Sign, plain, escaped, Member, one, range, every, char, wide, marked, any, set, class, Item, takes, start, end, never, opens, closes, bar}
+use Rattle.grammar.specs.Grammar.{sign, member, members, caret, times, item, written, GoodSign, GoodMember, GoodMembers, Good}
+use Rattle.grammar.specs.Items.{shut_of}
+use Rattle.grammar.proofs.Told.{is_lead, unlike, unlike_bare}
 
 -- ===== the class ends where it is written to end
 plain_on : (c : ℕ) (bs : List ℕ) → unmarked c ≡ true → shut_of false (c ∷ bs) ≡ shut_of false bs
@@ -63,15 +35,6 @@ class_shut true bs = refl
 class_shut false bs = refl
 
 -- ===== a character above 127 is as long as its first byte says
-more2 : (c : ℕ) → c < 2048 → more c ≡ 0
-more2 c h = cond-true (ltb c 2048) _ _ (lt-ltb c 2048 h)
-
-more3 : (c : ℕ) → 2048 ≤ c → c < 65536 → more c ≡ 1
-more3 c a b = cond-false (ltb c 2048) _ _ (le-ltb c 2048 a) ∙ cond-true (ltb c 65536) _ _ (lt-ltb c 65536 b)
-
-more4 : (c : ℕ) → 65536 ≤ c → more c ≡ 2
-more4 c a = cond-false (ltb c 2048) _ _ (le-ltb c 2048 (omega arith)) ∙ cond-false (ltb c 65536) _ _ (le-ltb c 65536 a)
-
 owes_long : (n lo hi : ℕ) (cs bs : List ℕ) → Owes n lo hi (λ t. t ≡ cs) bs → length bs ≡ suc (n + length cs)
 owes_long zero lo hi cs [] h = absurd h
 owes_long (suc n) lo hi cs [] h = absurd h
@@ -102,23 +65,11 @@ module _ (c : ℕ) (a : 128 ≤ c) (s : scalar c ≡ true) (bs : List ℕ) where
   pub leads4 : 65536 ≤ c → Leads (240 + c / 262144) 2
   leads4 d = leads_more (240 + c / 262144) 2 bs (next (c / 4096) ∷ next (c / 64) ∷ next c ∷ bs) (omega arith) (begins _ (four c d))
 
-led_read : (x n : ℕ) (bs : List ℕ) → Leads x n → item_of (x ∷ bs) ≡ repeated_as (Wide n) (drop (n + 1) bs)
-led_read x n bs l = ap (λ q. item_by q x bs) l.1 ∙ ap (λ (m : ℕ). repeated_as (Wide m) (drop (m + 1) bs)) l.2
-
-wide_read : (c : ℕ) → 128 ≤ c → scalar c ≡ true → (bs : List ℕ) → item_of (encode c ++ bs) ≡ repeated_as (Wide (more c)) bs
-wide_read c a s bs = ⊎_elim
-    (λ b. ap (λ cs. item_of (cs ++ bs)) (two c a b) ∙ led_read (192 + c / 64) 0 (next c ∷ bs) (leads2 c a s bs b) ∙ ap (λ (n : ℕ). repeated_as (Wide n) bs) (sym (more2 c b)))
-    (λ b. ⊎_elim
-    (λ d. ap (λ cs. item_of (cs ++ bs)) (three c b d) ∙ led_read (224 + c / 4096) 1 (next (c / 64) ∷ next c ∷ bs) (leads3 c a s bs b d) ∙ ap (λ (n : ℕ). repeated_as (Wide n) bs) (sym (more3 c b d)))
-    (λ d. ap (λ cs. item_of (cs ++ bs)) (four c d) ∙ led_read (240 + c / 262144) 2 (next (c / 4096) ∷ next (c / 64) ∷ next c ∷ bs) (leads4 c a s bs d) ∙ ap (λ (n : ℕ). repeated_as (Wide n) bs) (sym (more4 c d)))
-    (cases_lt c 65536))
-    (cases_lt c 2048)
-
 -- ===== no item begins with a repeat
 abbrev pub Unrepeated : List ℕ → Type 0
 Unrepeated bs = (eqb (get_or bs 0 0) 63 ≡ false) × (eqb (get_or bs 0 0) 42 ≡ false) × (eqb (get_or bs 0 0) 43 ≡ false)
 
-high_unlike : (m : ℕ) → m < 128 → (bs : List ℕ) → Begun (λ t. Unit {0}) bs → eqb (get_or bs 0 0) m ≡ false
+pub high_unlike : (m : ℕ) → m < 128 → (bs : List ℕ) → Begun (λ t. Unit {0}) bs → eqb (get_or bs 0 0) m ≡ false
 high_unlike m lt [] h = absurd h
 high_unlike m lt (b ∷ bs) h = ne_eqb b m (λ e. omega (arith, h.0))
 
@@ -140,32 +91,6 @@ module _ (g d : ℕ) where
   unrepeated (opens ∷ is) h = (refl, refl, refl)
   unrepeated (closes ∷ is) h = (refl, refl, refl)
   unrepeated (bar ∷ is) h = (refl, refl, refl)
-
-  repeat_read : (p : Token) (u : Times) (is : List Item) → Good g d is → repeated_as p (times u (written is)) ≡ (Take p (times_of u), written is)
-  repeat_read p once is h =
-      let n = unrepeated is h in
-      cond-false (eqb (get_or (written is) 0 0) 63) _ _ n.0 ∙ cond-false (eqb (get_or (written is) 0 0) 42) _ _ n.1 ∙ cond-false (eqb (get_or (written is) 0 0) 43) _ _ n.2
-  repeat_read p maybe is h = refl
-  repeat_read p many is h = refl
-  repeat_read p some is h = refl
-
-  piece_read : (p : Piece) (u : Times) (is : List Item) → GoodPiece p → Good g d is → item_of (piece p (times u (written is))) ≡ (Take (piece_of p) (times_of u), written is)
-  piece_read (char c) u is a h = ap (λ q. item_by q c (times u (written is))) (is_bare c a) ∙ repeat_read (Char c) u is h
-  piece_read (wide c) u is a h = wide_read c a.0 a.1 (times u (written is)) ∙ repeat_read (Wide (more c)) u is h
-  piece_read (marked c) u is a h = ap (λ q. escaped_by q c (times u (written is))) (is_mark c a) ∙ repeat_read (Char c) u is h
-  piece_read any u is a h = repeat_read Any u is h
-  piece_read (set s) u is a h = ap (λ q. escaped_by q (letter s) (times u (written is))) (is_set s) ∙ repeat_read (Set s) u is h
-  piece_read (class not m ms) u is a h =
-      ap (repeated_as Class) (class_shut not _ ∙ member_on m _ a.0 ∙ members_shut ms (times u (written is)) a.1) ∙ repeat_read Class u is h
-
-  pub item_read : (x : Item) (is : List Item) → Good g d (x ∷ is) → item_of (item x (written is)) ≡ (token_of x, written is)
-  item_read (takes p u) is h = piece_read p u is h.0 h.1
-  item_read start is h = refl
-  item_read end is h = refl
-  item_read (never n) is h = ap (λ q. escaped_by q n (written is)) (is_digit n h.0)
-  item_read opens is h = refl
-  item_read closes is h = refl
-  item_read bar is h = refl
 
 -- an item has a byte
 abbrev pub Bytes : List ℕ → Type 0

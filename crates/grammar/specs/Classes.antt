@@ -8,7 +8,7 @@ use Rattle.grammar.specs.declared.class.Spot.TheVariants.{Fresh, Escape, Last, R
 use Rattle.grammar.specs.declared.class.Passed.{Passed}
 use Rattle.grammar.specs.declared.class.Passed.TheVariants.{Taken, Shut, On}
 use Rattle.grammar.specs.Bytes.{escaped_of}
-use Rattle.grammar.specs.Grammar.{Member, one, range, every, class, value, member, members, piece, GoodMember, GoodMembers}
+use Rattle.grammar.specs.Grammar.{Member, one, range, every, value, caret, member, members, GoodMember, GoodMembers}
 
 -- a member takes c: it is that character, or c lies in the range, both ends in, or in the set
 abbrev pub in_member : Member → ℕ → Bool
@@ -84,10 +84,11 @@ pub record Holds (negated : Bool) (bytes : List ℕ) (not : Bool) (m : Member) (
   pub rest : List ℕ
   pub written : bytes ≡ member m (members ms (93 ∷ rest))
 
--- whatever class is written at i, it is held
-abbrev pub Opens : List ℕ → ℕ → Bool → List ℕ → Type 0
-Opens e i negated bytes =
-    (not : Bool) (m : Member) (ms : List Member) (rest : List ℕ) → GoodMember m → GoodMembers ms → piece (class not m ms) rest ≡ drop i e → Holds negated bytes not m ms
+-- whatever class is written behind its `[`, it is held, and after is what follows it
+abbrev pub Opens : List ℕ → Bool → List ℕ → List ℕ → Type 0
+Opens behind negated bytes after =
+    (not : Bool) (m : Member) (ms : List Member) (rest : List ℕ) → GoodMember m → GoodMembers ms
+    → caret not (member m (members ms (93 ∷ rest))) ≡ behind → Holds negated bytes not m ms × (after ≡ rest)
 
 -- r tells whether the class that is held takes c
 abbrev pub Tests : Bool → List ℕ → ℕ → Bool → Type 0

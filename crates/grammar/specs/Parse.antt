@@ -6,7 +6,10 @@ use Rattle.grammar.specs.declared.bytes.Escaped.{Escaped}
 use Rattle.grammar.specs.declared.bytes.Escaped.TheVariants as e
 use Rattle.grammar.specs.Bytes.{kind_of, escaped_of}
 use Rattle.grammar.specs.Grammar.{Sign, plain, escaped, Member, one, range, every, Piece, char, wide, marked, any, set, class, once, maybe, many, some, Item, takes, start, end, never, opens, closes, bar, written, Good}
-use Rattle.grammar.specs.Items.{shut_of}
+use Rattle.grammar.specs.declared.items.Piece.{Piece as PieceRead}
+use Rattle.grammar.specs.declared.items.Item.{Item as ItemRead}
+use Rattle.grammar.specs.declared.items.Items.{Items}
+use Rattle.grammar.specs.Items.{shut_of, IsPiece, IsItem}
 
 -- the first character of a class, and what follows it
 abbrev pub sign_at : List ℕ → Sign × List ℕ
@@ -42,6 +45,14 @@ timed p bs =
     (cond (slice_index bs 0 == 42) (takes p many, drop 1 bs)
     (cond (slice_index bs 0 == 43) (takes p some, drop 1 bs)
     (takes p once, bs)))
+
+-- this item was read, and these bytes are left
+abbrev pub Read : ItemRead × Items → Item × List ℕ → Type 0
+Read r p = IsItem r.0 p.0 × (r.1.rest.now ≡ p.1)
+
+-- the piece x is taken as often as is written behind it
+abbrev pub Repeats : PieceRead → List ℕ → ItemRead × Items → Type 0
+Repeats x bytes r = (p : Piece) → IsPiece x p → Read r (timed p bytes)
 
 -- the character whose first byte is b, which n more bytes than one follow
 abbrev pub wide_at : ℕ → ℕ → List ℕ → ℕ

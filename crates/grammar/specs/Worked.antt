@@ -1,13 +1,9 @@
 -- Worked examples of the definitions. Assumes nothing.
 use Rattle.std.specs.Prelude.{◌≡◌, true, false, [], ◌∷◌, Some, None, codes}
 use Rattle.chars.specs.declared.sets.Set.TheVariants.{Digits, Spaces}
-use Rattle.grammar.specs.declared.items.Piece.TheVariants.{Char, Wide, Set, Class}
-use Rattle.grammar.specs.declared.items.Times.TheVariants as t
-use Rattle.grammar.specs.declared.items.Item.TheVariants.{Take, Never}
-use Rattle.grammar.specs.Grammar.{plain, range, every, class, once, takes, end, bar}
+use Rattle.grammar.specs.Grammar.{plain, escaped, one, range, every, char, wide, marked, set, class, once, maybe, many, some, takes, end, never, bar}
 use Rattle.grammar.specs.Reader.{refusal}
-use Rattle.grammar.specs.Items.{item_of}
-use Rattle.grammar.specs.Parse.{items}
+use Rattle.grammar.specs.Parse.{part_at, items}
 use Rattle.grammar.specs.Classes.{class_takes}
 
 -- where expressions are refused
@@ -46,12 +42,12 @@ Places =
 -- what expressions are written of
 abbrev pub Parts : Type 0
 Parts =
-    (item_of (codes "a*b") ≡ (Take (Char 97) t.Many, codes "b"))
-    × (item_of (codes "\\.b") ≡ (Take (Char 46) t.Once, codes "b"))
-    × (item_of (codes "\\d+") ≡ (Take (Set Digits) t.Some, []))
-    × (item_of (codes "[^\\]a]?$") ≡ (Take Class t.Maybe, codes "$"))
-    × (item_of (226 ∷ 130 ∷ 172 ∷ 63 ∷ 97 ∷ []) ≡ (Take (Wide 1) t.Maybe, codes "a"))
-    × (item_of (codes "\\1a") ≡ (Never, codes "a"))
+    (part_at (codes "a*b") ≡ (takes (char 97) many, codes "b"))
+    × (part_at (codes "\\.b") ≡ (takes (marked 46) once, codes "b"))
+    × (part_at (codes "\\d+") ≡ (takes (set Digits) some, []))
+    × (part_at (codes "[^\\]a]?$") ≡ (takes (class true (one (escaped 93)) (one (plain 97) ∷ [])) maybe, codes "$"))
+    × (part_at (226 ∷ 130 ∷ 172 ∷ 63 ∷ 97 ∷ []) ≡ (takes (wide 8364) maybe, codes "a"))
+    × (part_at (codes "\\1a") ≡ (never 49, codes "a"))
     × (items (codes "[b-d\\s]|$") ≡ takes (class false (range (plain 98) (plain 100)) (every Spaces ∷ [])) once ∷ bar ∷ end ∷ [])
 
 -- which characters a class takes, from the bytes after `[`

@@ -1,6 +1,7 @@
 // A class, and which characters it takes.
-ghost use Rattle.std.specs.Prelude.{◌≡◌, ◌+◌, drop};
-ghost use Rattle.grammar.specs.Classes.{unless, fresh as fresh_to, single as single_to, up_to, after_escape as after_escape_spec, passes, listed, complemented, members_of, taken, Opens, Tests, TestsWide};
+ghost use Rattle.std.specs.Prelude.{◌≡◌, ◌≤◌, false, length};
+ghost use Rattle.grammar.specs.Items.{shut_of};
+ghost use Rattle.grammar.specs.Classes.{unless, fresh as fresh_to, single as single_to, up_to, after_escape as after_escape_spec, passes, listed, taken, Opens, Tests, TestsWide};
 ghost use Rattle.grammar.specs.Bytes.{escaped_of};
 ghost use Rattle.grammar.specs.declared.class.Spot.TheVariants.{Fresh};
 
@@ -103,38 +104,46 @@ fn lists(members: &[u8], c: u8) -> bool
     false
 }
 
-// What follows the byte at `i`.
-fn after(bytes: &[u8], i: usize) -> &[u8]
-    ensures { result.now ≡ drop (i + 1) bytes.now }
+// What follows the class: it ends at the first `]` that no backslash precedes.
+fn after_class(members: &str) -> &str
+    ensures shut { result.now ≡ shut_of false members.now }
+    ensures within { length result.now ≤ length members.now }
 {
-    &bytes[i.saturating_add(1).min(bytes.len())..]
+    let mut chars = members.chars();
+    while let Some(c) = chars.next() {
+        match c {
+            ']' => return chars.as_str(),
+            '\\' => {
+                chars.next();
+            }
+            _ => {}
+        }
+    }
+    chars.as_str()
 }
 
 // A class of an expression. `members` begins with the first member, and the `]` that ends the class stands within it.
 #[derive(Clone, Copy)]
 pub struct Class<'a> {
-    negated: bool,
-    members: &'a [u8],
+    pub negated: bool,
+    pub members: &'a [u8],
 }
 
 impl<'a> Class<'a> {
-    // The class whose `[` stands at `i`. Where none stands there, some class.
-    pub fn at(expression: &'a [u8], i: usize) -> Class<'a>
-        ensures negated { result.negated ≡ complemented (drop (i + 1) expression.now) }
-        ensures members { result.members.now ≡ members_of (drop (i + 1) expression.now) }
-        ensures opens { Opens expression.now i result.negated result.members.now }
+    // The class whose bytes behind `[` begin the text, and what follows its `]`. Where there is no such class, some class.
+    pub(crate) fn split(text: &'a str) -> (Class<'a>, &'a str)
+        ensures opens { Opens text.now result.0.negated result.0.members.now result.1.now }
+        ensures within { length result.1.now ≤ length text.now }
     {
-        let bytes = after(expression, i);
-        match bytes.strip_prefix(b"^") {
-            Some(members) => Class {
-                negated: true,
-                members,
-            },
-            None => Class {
-                negated: false,
-                members: bytes,
-            },
-        }
+        let (negated, members) = match text.strip_prefix('^') {
+            Some(members) => (true, members),
+            None => (false, text),
+        };
+        let class = Class {
+            negated,
+            members: members.as_bytes(),
+        };
+        (class, after_class(members))
     }
 
     // Whether the class takes the ASCII character `c`. Costs at most as many steps as the class has bytes.

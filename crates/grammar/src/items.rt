@@ -1,22 +1,21 @@
-// The items of an expression, read one at a time from its bytes.
-ghost use Rattle.std.specs.Prelude.{◌≡◌, ◌<◌, ◌≤◌, false, length, drop, slice_index};
-ghost use Rattle.grammar.specs.Items.{shut_of, repeated_as, escaped_as, item_of, Reads};
+// The items of an expression, read one at a time.
+ghost use Rattle.std.specs.Prelude.{◌<◌, ◌≤◌, ◌∷◌, length, IfSome};
+ghost use Rattle.grammar.specs.Parse.{Repeats};
+ghost use Rattle.std.specs.Iterator.{at_most};
+ghost use Rattle.grammar.specs.Items.{Reads, Yields};
 
-use crate::bytes::{Escaped, Kind, escaped_of, kind_of};
+use crate::class::Class;
 use chars::sets::Set;
 
 // What takes one character.
 #[derive(Clone, Copy)]
-pub enum Piece {
-    // this ASCII character, bare or behind a backslash
-    Char(u8),
-    // the character above 127 whose bytes stand where the item begins: this many, and two
-    Wide(u8),
+pub enum Piece<'a> {
+    // this character, bare or behind a backslash
+    Char(char),
     // `.`
     Any,
     Set(Set),
-    // the class whose `[` stands where the item begins
-    Class,
+    Class(Class<'a>),
 }
 
 #[derive(Clone, Copy)]
@@ -31,8 +30,8 @@ pub enum Times {
 }
 
 #[derive(Clone, Copy)]
-pub enum Item {
-    Take(Piece, Times),
+pub enum Item<'a> {
+    Take(Piece<'a>, Times),
     // `^`
     Start,
     // `$`
@@ -44,126 +43,82 @@ pub enum Item {
     Bar,
 }
 
-// The byte `k` places after `i`, and 0 past the end.
-fn peek(expression: &[u8], i: usize, k: usize) -> u8
-    requires { i ≤ length expression.now }
-    ensures { result ≡ slice_index (drop i expression.now) k }
+// The items that are left of an expression.
+#[derive(Clone, Copy)]
+pub struct Items<'a> {
+    pub rest: &'a str,
+}
+
+// What is read behind a piece: how often it is taken.
+fn repeated<'a>(piece: Piece<'a>, rest: &'a str) -> (Item<'a>, Items<'a>)
+    ensures repeats { Repeats piece.entry rest.now result }
+    ensures within { length result.1.rest.now ≤ length rest.now }
 {
-    if k < expression.len() - i {
-        expression[i + k]
-    } else {
-        0
+    let mut chars = rest.chars();
+    let (times, rest) = match chars.next() {
+        Some('?') => (Times::Maybe, chars.as_str()),
+        Some('*') => (Times::Many, chars.as_str()),
+        Some('+') => (Times::Some, chars.as_str()),
+        _ => (Times::Once, rest),
+    };
+    (Item::Take(piece, times), Items { rest })
+}
+
+// What is read behind a backslash: a set, a digit, or a mark that stands for itself.
+fn escaped(rest: &str) -> Option<(Item<'_>, Items<'_>)>
+    ensures reads { Reads (92 ∷ rest.now) result }
+    ensures within { IfSome result (λ r. length r.1.rest.now ≤ length rest.now) }
+{
+    let mut chars = rest.chars();
+    let c = chars.next()?;
+    let rest = chars.as_str();
+    if c.is_ascii_digit() {
+        return Some((Item::Never, Items { rest }));
+    }
+    Some(match c {
+        'd' => repeated(Piece::Set(Set::Digits), rest),
+        'w' => repeated(Piece::Set(Set::Words), rest),
+        's' => repeated(Piece::Set(Set::Spaces), rest),
+        _ => repeated(Piece::Char(c), rest),
+    })
+}
+
+impl<'a> Items<'a> {
+    // The first item and the others, if one is left. Costs as many steps as the item has bytes.
+    pub fn split_first(&self) -> Option<(Item<'a>, Items<'a>)>
+        ensures reads { Reads self.now.rest.now result }
+        ensures onward { IfSome result (λ r. length r.1.rest.now < length self.now.rest.now) }
+    {
+        let mut chars = self.rest.chars();
+        let first = chars.next()?;
+        let rest = chars.as_str();
+        Some(match first {
+            '|' => (Item::Bar, Items { rest }),
+            '(' => (Item::Open, Items { rest }),
+            ')' => (Item::Close, Items { rest }),
+            '^' => (Item::Start, Items { rest }),
+            '$' => (Item::End, Items { rest }),
+            '.' => repeated(Piece::Any, rest),
+            '[' => {
+                let (class, rest) = Class::split(rest);
+                repeated(Piece::Class(class), rest)
+            }
+            '\\' => escaped(rest)?,
+            _ => repeated(Piece::Char(first), rest),
+        })
     }
 }
 
-// `k` places after `i`, or the end.
-fn skip(expression: &[u8], i: usize, k: usize) -> usize
-    requires { i ≤ length expression.now }
-    ensures within { result ≤ length expression.now }
-    ensures onward { (i ≤ result) × (0 < k → i < length expression.now → i < result) }
-    ensures rest { drop result expression.now ≡ drop k (drop i expression.now) }
-{
-    if k < expression.len() - i {
-        i + k
-    } else {
-        expression.len()
-    }
-}
+impl<'a> Iterator for Items<'a> {
+    type Item = Item<'a>;
 
-// The end of the class whose members stand from `i` on.
-fn class_end(expression: &[u8], i: usize) -> usize
-    requires { i ≤ length expression.now }
-    ensures within { result ≤ length expression.now }
-    ensures onward { i ≤ result }
-    ensures rest { drop result expression.now ≡ shut_of false (drop i expression.now) }
-{
-    let mut escaped = false;
-    let mut j = i;
-    while j < expression.len() {
-        let b = expression[j];
-        j += 1;
-        if escaped {
-            escaped = false;
-        } else if b == b'\\' {
-            escaped = true;
-        } else if b == b']' {
-            return j;
-        }
-    }
-    j
-}
+    ghost next_gives = { Yields };
 
-// The piece, and how often it is taken, which the byte at `i` says.
-fn repeated(expression: &[u8], i: usize, piece: Piece) -> (Item, usize)
-    requires { i ≤ length expression.now }
-    ensures within { result.1 ≤ length expression.now }
-    ensures onward { i ≤ result.1 }
-    ensures item { result.0 ≡ (repeated_as piece (drop i expression.now)).0 }
-    ensures rest { drop result.1 expression.now ≡ (repeated_as piece (drop i expression.now)).1 }
-{
-    match peek(expression, i, 0) {
-        b'?' => (Item::Take(piece, Times::Maybe), skip(expression, i, 1)),
-        b'*' => (Item::Take(piece, Times::Many), skip(expression, i, 1)),
-        b'+' => (Item::Take(piece, Times::Some), skip(expression, i, 1)),
-        _ => (Item::Take(piece, Times::Once), i),
-    }
-}
+    ghost remaining = { λ s. at_most (length s.rest.now) };
 
-// What stands behind a backslash.
-fn escaped_at(expression: &[u8], i: usize) -> (Item, usize)
-    requires { i ≤ length expression.now }
-    ensures within { result.1 ≤ length expression.now }
-    ensures onward { i ≤ result.1 }
-    ensures item { result.0 ≡ (escaped_as (drop i expression.now)).0 }
-    ensures rest { drop result.1 expression.now ≡ (escaped_as (drop i expression.now)).1 }
-{
-    let b = peek(expression, i, 0);
-    let next = skip(expression, i, 1);
-    match escaped_of(b) {
-        Some(Escaped::Mark) => repeated(expression, next, Piece::Char(b)),
-        Some(Escaped::Set(set)) => repeated(expression, next, Piece::Set(set)),
-        _ => (Item::Never, next),
+    fn next(&mut self) -> Option<Item<'a>> {
+        let (first, others) = self.split_first()?;
+        *self = others;
+        Some(first)
     }
-}
-
-// The item that begins at `i`, and where the next one stands.
-fn first_at(expression: &[u8], i: usize) -> (Item, usize)
-    requires { i ≤ length expression.now }
-    ensures within { result.1 ≤ length expression.now }
-    ensures onward { i < length expression.now → i < result.1 }
-    ensures item { result.0 ≡ (item_of (drop i expression.now)).0 }
-    ensures rest { drop result.1 expression.now ≡ (item_of (drop i expression.now)).1 }
-{
-    let b = peek(expression, i, 0);
-    let next = skip(expression, i, 1);
-    match kind_of(b) {
-        Some(Kind::Bare) => repeated(expression, next, Piece::Char(b)),
-        Some(Kind::Lead(owed)) => repeated(
-            expression,
-            skip(expression, next, owed.more as usize + 1),
-            Piece::Wide(owed.more),
-        ),
-        Some(Kind::Bar) => (Item::Bar, next),
-        Some(Kind::Open) => (Item::Open, next),
-        Some(Kind::Close) => (Item::Close, next),
-        Some(Kind::Start) => (Item::Start, next),
-        Some(Kind::End) => (Item::End, next),
-        Some(Kind::Dot) => repeated(expression, next, Piece::Any),
-        Some(Kind::Backslash) => escaped_at(expression, next),
-        Some(Kind::Bracket) => repeated(expression, class_end(expression, next), Piece::Class),
-        Some(Kind::Repeat) | None => (Item::Never, next),
-    }
-}
-
-// The item at `i` of a legal expression, and where the next one stands. At the end of the expression no item stands, and the
-// answer says nothing. Costs as many steps as the item has bytes.
-pub fn item_at(expression: &[u8], i: usize) -> (Item, usize)
-    requires { i ≤ length expression.now }
-    ensures within { result.1 ≤ length expression.now }
-    ensures onward { i < length expression.now → i < result.1 }
-    ensures item { result.0 ≡ (item_of (drop i expression.now)).0 }
-    ensures rest { drop result.1 expression.now ≡ (item_of (drop i expression.now)).1 }
-    ensures reads { Reads expression.now i result.0 result.1 }
-{
-    first_at(expression, i)
 }

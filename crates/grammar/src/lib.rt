@@ -10,14 +10,16 @@
 // A class has one member or more between `[` and `]`, all of ASCII: characters (every mark with its backslash), ranges up to a
 // higher character, and sets; behind `[^` it takes what these do not take.
 //
-// specs/Grammar has the legal expressions by how they are written. `legality` says whether an expression is one of them and,
-// if not, how much of it some legal expression shares. `items` reads one item after the other from the bytes of a legal
-// expression, and `class` asks a class whether it takes a character. Nothing is allocated, and any length is read.
+// specs/Grammar has the legal expressions by how they are written. `legality` says whether bytes are one of them and, if not,
+// how much of them some legal expression shares. `expression` keeps a legal one as text, since each is UTF-8; `items` reads one
+// item after the other from it, and `class` asks a class whether it takes a character. Nothing is allocated, and any length is
+// read.
 #![tactic(auto)]
 
 mod bytes;
 pub mod class;
 pub mod examples;
+pub mod expression;
 pub mod items;
 pub mod legality;
 mod reader;

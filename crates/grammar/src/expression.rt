@@ -1,0 +1,36 @@
+// A legal expression.
+ghost use Rattle.std.specs.Prelude.{◌≡◌, Some as Just, None as Neither, MatchResult};
+ghost use Rattle.grammar.specs.Reader.{refusal as refusal_of};
+
+use crate::items::Items;
+use crate::legality::refusal;
+use std::str::from_utf8;
+
+#[derive(Clone, Copy)]
+pub struct Expression<'a> {
+    pub text: &'a str,
+    ghost legal: { refusal_of text.now ≡ Neither },
+}
+
+impl<'a> Expression<'a> {
+    // The expression that the bytes spell; if they spell none, the place at which they are refused.
+    pub fn new(bytes: &'a [u8]) -> Result<Expression<'a>, usize>
+        ensures { MatchResult result (λ e. (e.text.now ≡ bytes.now) × (refusal_of bytes.now ≡ Neither)) (λ k. refusal_of bytes.now ≡ Just k) }
+    {
+        if let Some(place) = refusal(bytes) {
+            return Err(place);
+        }
+        // every item is written in whole characters
+        match from_utf8(bytes) {
+            Ok(text) => Ok(Expression { text }),
+            Err(_) => unreachable!(),
+        }
+    }
+
+    // Its items, all of them.
+    pub fn items(&self) -> Items<'a>
+        ensures { result.rest.now ≡ self.now.text.now }
+    {
+        Items { rest: self.text }
+    }
+}
