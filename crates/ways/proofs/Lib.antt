@@ -1,5 +1,1 @@
 pub mod Prefers
-pub mod Chars
-pub mod Taking
-pub mod Reading
-pub mod Starts

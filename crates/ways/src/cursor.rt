@@ -1,0 +1,52 @@
+// A place of a line, and one step from it.
+ghost use Rattle.std.specs.Prelude.{◌≡◌, ◌<◌, ◌↔◌, ◌==◌, IsSome, IfSome};
+ghost use Rattle.std.specs.Str.{IsCharBoundary};
+
+use crate::stub::nothing;
+use grammar::items::Piece;
+
+#[derive(Clone, Copy)]
+pub struct Cursor<'a> {
+    pub line: &'a str,
+    // the line may be cut there
+    pub place: usize,
+    ghost edge: { IsCharBoundary line.now place },
+}
+
+impl<'a> Cursor<'a> {
+    ghost use Rattle.ways.specs.Match.{at_end};
+    ghost use Rattle.ways.specs.Pieces.{Steps};
+
+    // The place of the line; none off its edges.
+    pub fn new(line: &'a str, place: usize) -> Option<Cursor<'a>>
+        ensures at_edge { IsSome result ↔ IsCharBoundary line.now place }
+        ensures here { IfSome result (λ c. (c.line.now ≡ line.now) × (c.place ≡ place)) }
+    {
+        nothing();
+        unreachable!()
+    }
+
+    // Whether `^` holds: at the line's begin.
+    pub fn is_at_start(&self) -> bool
+        ensures { result ≡ (self.now.place == 0) }
+    {
+        self.place == 0
+    }
+
+    // Whether `$` holds: at the line's end, and before a byte 10 that ends the line.
+    pub fn is_at_end(&self) -> bool
+        ensures { result ≡ at_end self.now.line.now self.now.place }
+    {
+        nothing();
+        unreachable!()
+    }
+
+    // The place behind the next character, if the piece takes that.
+    pub fn step(&self, piece: &Piece<'_>) -> Option<Cursor<'a>>
+        ensures steps { Steps piece.now self.now.line.now self.now.place result }
+        ensures on { IfSome result (λ c. (c.line.now ≡ self.now.line.now) × (self.now.place < c.place)) }
+    {
+        nothing();
+        unreachable!()
+    }
+}
