@@ -2,7 +2,7 @@
 ghost use Rattle.std.specs.Prelude.{◌≡◌, ◌<◌, ◌↔◌, ◌==◌, IsSome, IfSome};
 ghost use Rattle.std.specs.Str.{IsCharBoundary};
 
-use crate::stub::nothing;
+use crate::taking::takes;
 use grammar::items::Piece;
 
 #[derive(Clone, Copy)]
@@ -22,8 +22,14 @@ impl<'a> Cursor<'a> {
         ensures at_edge { IsSome result ↔ IsCharBoundary line.now place }
         ensures here { IfSome result (λ c. (c.line.now ≡ line.now) × (c.place ≡ place)) }
     {
-        nothing();
-        unreachable!()
+        if line.is_char_boundary(place) {
+            Some(Cursor {
+                line,
+                place,
+            })
+        } else {
+            None
+        }
     }
 
     // Whether `^` holds: at the line's begin.
@@ -37,8 +43,7 @@ impl<'a> Cursor<'a> {
     pub fn is_at_end(&self) -> bool
         ensures { result ≡ at_end self.now.line.now self.now.place }
     {
-        nothing();
-        unreachable!()
+        matches!(&self.line[self.place..], "" | "\n")
     }
 
     // The place behind the next character, if the piece takes that.
@@ -46,7 +51,14 @@ impl<'a> Cursor<'a> {
         ensures steps { Steps piece.now self.now.line.now self.now.place result }
         ensures on { IfSome result (λ c. (c.line.now ≡ self.now.line.now) × (self.now.place < c.place)) }
     {
-        nothing();
-        unreachable!()
+        let c = self.line[self.place..].chars().next()?;
+        if takes(piece, c) {
+            Some(Cursor {
+                line: self.line,
+                place: self.place + c.len_utf8(),
+            })
+        } else {
+            None
+        }
     }
 }
