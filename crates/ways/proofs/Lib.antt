@@ -1,2 +1,3 @@
 pub mod Prefers
 pub mod Reading
+pub mod Starts

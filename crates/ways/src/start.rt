@@ -5,7 +5,7 @@ ghost use Rattle.grammar.specs.Parse.{items as items_of};
 
 use crate::stub::nothing;
 use grammar::expression::Expression;
-use grammar::items::Items;
+use grammar::items::{Item, Items};
 
 // The begin of an alternative.
 #[derive(Clone, Copy)]
@@ -27,8 +27,11 @@ impl<'a> Start<'a> {
         ensures whole { (result.items.rest.now ≡ expression.now.text.now) × (result.nth ≡ 0) × (result.opened ≡ 0) }
         ensures begins { Begins expression.now.text.now result (items_of expression.now.text.now) }
     {
-        nothing();
-        unreachable!()
+        Start {
+            items: expression.items(),
+            nth: 0,
+            opened: 0,
+        }
     }
 
     // The begin of the next alternative, if there is one. Reads this one to its end.
@@ -36,8 +39,27 @@ impl<'a> Start<'a> {
         ensures onward { IfSome result (λ s. length s.items.rest.now < length self.now.items.rest.now) }
         ensures after { (e : List ℕ) (is : List g.Item) → Begins e self.now is → After e self.now is result }
     {
-        nothing();
-        unreachable!()
+        let Start {
+            mut items,
+            mut nth,
+            mut opened,
+        } = *self;
+        while let Some((item, others)) = items.split_first() {
+            items = others;
+            nth += 1;
+            match item {
+                Item::Bar => {
+                    return Some(Start {
+                        items,
+                        nth,
+                        opened,
+                    });
+                }
+                Item::Open => opened += 1,
+                _ => {}
+            }
+        }
+        None
     }
 }
 
