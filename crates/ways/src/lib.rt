@@ -12,5 +12,4 @@
 pub mod cursor;
 pub mod find;
 pub mod start;
-mod stub;
 mod taking;

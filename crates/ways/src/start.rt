@@ -3,7 +3,6 @@ ghost use Rattle.std.specs.Prelude.{◌≡◌, ℕ, ◌+◌, ◌<◌, ◌^◌, L
 ghost use Rattle.grammar.specs.Grammar as g;
 ghost use Rattle.grammar.specs.Parse.{items as items_of};
 
-use crate::stub::nothing;
 use grammar::expression::Expression;
 use grammar::items::{Item, Items};
 
@@ -79,15 +78,36 @@ impl<'a> Alternatives<'a> {
     pub fn new(expression: &Expression<'a>) -> Alternatives<'a>
         ensures { Left expression.now.text.now 0 result (alternatives (items_of expression.now.text.now)) }
     {
-        nothing();
-        unreachable!()
+        let first = Start::first(expression);
+        Alternatives {
+            next: Some(first),
+            after: first.next(),
+        }
     }
 
     // The next one, and the others are left.
     pub fn advance(&mut self) -> Option<Start<'a>>
         ensures gives { (e : List ℕ) (n : ℕ) (alts : List (List g.Item)) → Left e n self.old alts → Gives e n alts result self.new }
     {
-        nothing();
-        unreachable!()
+        self.next()
+    }
+}
+
+impl<'a> Iterator for Alternatives<'a> {
+    ghost use Rattle.std.specs.Iterator.{at_most};
+    ghost use Rattle.ways.specs.Starts.{Left, Gives, count_left};
+
+    type Item = Start<'a>;
+
+    // Of those that were left, the first is given, and the others are left.
+    ghost next_gives = { λ a r b. (e : List ℕ) (n : ℕ) (alts : List (List g.Item)) → Left e n a alts → Gives e n alts r b };
+
+    ghost remaining = { λ a. at_most (count_left a) };
+
+    fn next(&mut self) -> Option<Start<'a>> {
+        let next = self.next?;
+        self.next = self.after;
+        self.after = self.after.and_then(|start| start.next());
+        Some(next)
     }
 }
