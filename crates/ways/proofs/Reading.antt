@@ -1,6 +1,5 @@
 -- The items that are written in a text, as they are read. Assumes nothing.
 use Rattle.std.proofs.Common.{◌≡◌, ℕ, ◌+◌, ◌-◌, List, [], ◌∷◌, Some, None, sym, refl, ◌∙◌, subst}
-use Rattle.grammar.specs.declared.items.Piece.{Piece}
 use Rattle.grammar.specs.declared.items.Times.{Times}
 use Rattle.grammar.specs.declared.items.Times.TheVariants as t
 use Rattle.grammar.specs.declared.items.Item.{Item}

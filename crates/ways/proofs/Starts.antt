@@ -1,5 +1,5 @@
 -- From the begin of one alternative to that of the next. Assumes nothing.
-use Rattle.std.proofs.Common.{◌≡◌, ℕ, ◌+◌, ◌-◌, ◌<◌, ◌≤◌, Bool, true, false, cond, List, [], ◌∷◌, ◌++◌, length, drop, Some, None, sym, refl, ap, ◌∙◌, subst, append_assoc, arith}
+use Rattle.std.proofs.Common.{◌≡◌, ℕ, ◌+◌, ◌-◌, Bool, true, false, cond, List, [], ◌∷◌, ◌++◌, drop, Some, None, sym, refl, ap, ◌∙◌, subst, append_assoc, arith}
 use Rattle.std.proofs.lemmas.List.{drop-drop, append-nil}
 use Rattle.grammar.specs.declared.items.Item.{Item}
 use Rattle.grammar.specs.declared.items.Item.TheVariants as tok
@@ -49,7 +49,7 @@ alternatives_some (x ∷ is) = at (is_bar x)
     at true = ([], alternatives is, refl)
     at false = onto_some (alternatives is)
 
-module _ (e : List ℕ) (s : Start) (is : List g.Item) where
+module _ {e : List ℕ} {s : Start} {is : List g.Item} where
   pub begun : Begins e s is → Passed e s is s.items.rest.now s.nth s.opened is
   begun b = let a = alternatives_some is in record {
     front = [];
@@ -62,7 +62,7 @@ module _ (e : List ℕ) (s : Start) (is : List g.Item) where
     parts = a.2 ∙ sym (ap (on_front []) a.2);
   }
 
-  module _ (bytes : List ℕ) (n o : ℕ) (tail : List g.Item) (h : Passed e s is bytes n o tail) where
+  module _ {bytes : List ℕ} {n o : ℕ} {tail : List g.Item} (h : Passed e s is bytes n o tail) where
     -- the items that are left
     pub left : Written bytes tail
     left = record { opened = o; depth = h.depth; good = h.good; written = h.written }

@@ -1,5 +1,5 @@
 // A place of a line, and one step from it.
-ghost use Rattle.std.specs.Prelude.{◌≡◌, ◌<◌, ◌↔◌, ◌==◌, IsSome, IfSome};
+ghost use Rattle.std.specs.Prelude.{◌≡◌, ◌<◌, ◌↔◌, ◌==◌, drop, IsSome, IfSome};
 ghost use Rattle.std.specs.Str.{IsCharBoundary};
 
 use crate::taking::takes;
@@ -23,13 +23,17 @@ impl<'a> Cursor<'a> {
         ensures here { IfSome result (λ c. (c.line.now ≡ line.now) × (c.place ≡ place)) }
     {
         if line.is_char_boundary(place) {
-            Some(Cursor {
-                line,
-                place,
-            })
+            Some(Cursor { line, place })
         } else {
             None
         }
+    }
+
+    // What is left of the line.
+    fn rest(&self) -> &'a str
+        ensures { result.now ≡ drop self.now.place self.now.line.now }
+    {
+        &self.line[self.place..]
     }
 
     // Whether `^` holds: at the line's begin.
@@ -43,7 +47,7 @@ impl<'a> Cursor<'a> {
     pub fn is_at_end(&self) -> bool
         ensures { result ≡ at_end self.now.line.now self.now.place }
     {
-        matches!(&self.line[self.place..], "" | "\n")
+        matches!(self.rest(), "" | "\n")
     }
 
     // The place behind the next character, if the piece takes that.
@@ -51,7 +55,7 @@ impl<'a> Cursor<'a> {
         ensures steps { Steps piece.now self.now.line.now self.now.place result }
         ensures on { IfSome result (λ c. (c.line.now ≡ self.now.line.now) × (self.now.place < c.place)) }
     {
-        let c = self.line[self.place..].chars().next()?;
+        let c = self.rest().chars().next()?;
         if takes(piece, c) {
             Some(Cursor {
                 line: self.line,

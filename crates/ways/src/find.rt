@@ -27,7 +27,11 @@ pub trait FindWay {
     ghost serves: { Self → List ℕ → List ℕ → Type 0 };
 
     // The match that begins at the place, of the alternative that begins there.
-    fn find_way(&mut self, start: &Start<'_>, from: &Cursor<'_>) -> Result<Option<Matched>, Self::Stop>
+    fn find_way(
+        &mut self,
+        start: &Start<'_>,
+        from: &Cursor<'_>,
+    ) -> Result<Option<Matched>, Self::Stop>
         ensures found { IfOk result (λ r. (e : List ℕ) (is : List g.Item) → serves self.old e from.now.line.now → Begins e start.now is → Matches (leading is) from.now.place (run from.now.line.now (leading is) from.now.place) r) }
         ensures same { (e l : List ℕ) → serves self.old e l → serves self.new e l };
 }

@@ -15,6 +15,7 @@ pub struct Start<'a> {
     pub nth: usize,
     // how many pairs of brackets were opened before it
     pub opened: usize,
+    // each item has a byte, and a text is shorter than 2 ^ 63, so neither count overflows on the way to the end
     ghost few: { (nth + length items.rest.now < 2 ^ 63) × (opened + length items.rest.now < 2 ^ 63) },
 }
 
@@ -48,11 +49,7 @@ impl<'a> Start<'a> {
             nth += 1;
             match item {
                 Item::Bar => {
-                    return Some(Start {
-                        items,
-                        nth,
-                        opened,
-                    });
+                    return Some(Start { items, nth, opened });
                 }
                 Item::Open => opened += 1,
                 _ => {}
