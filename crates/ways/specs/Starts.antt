@@ -32,6 +32,10 @@ Gives e n [] (Some s) a = ⊥
 Gives e n (x ∷ more) None a = ⊥
 Gives e n (x ∷ more) (Some s) a = (is : List g.Item) × Begins e s is × (s.opened ≡ n) × (leading is ≡ x) × Left e (n + pairs x) a more
 
+-- whatever was left in a, r is the first of it, and the others are left in b
+abbrev pub Advances : Alternatives → Option Start → Alternatives → Type 0
+Advances a r b = (e : List ℕ) (n : ℕ) (alts : List (List g.Item)) → Left e n a alts → Gives e n alts r b
+
 -- no more alternatives than this are left: each but the first has a bar of its own before it
 abbrev pub count_from : Option Start → Option Start → ℕ
 count_from None after = 0

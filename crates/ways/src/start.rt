@@ -92,12 +92,12 @@ impl<'a> Alternatives<'a> {
 
 impl<'a> Iterator for Alternatives<'a> {
     ghost use Rattle.std.specs.Iterator.{at_most};
-    ghost use Rattle.ways.specs.Starts.{Left, Gives, count_left};
+    ghost use Rattle.ways.specs.Starts.{Advances, count_left};
 
     type Item = Start<'a>;
 
-    // Of those that were left, the first is given, and the others are left.
-    ghost next_gives = { λ a r b. (e : List ℕ) (n : ℕ) (alts : List (List g.Item)) → Left e n a alts → Gives e n alts r b };
+    // Of the alternatives that were left the first is given, and the others are left.
+    ghost next_gives = { Advances };
 
     ghost remaining = { λ a. at_most (count_left a) };
 
