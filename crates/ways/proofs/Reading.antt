@@ -1,48 +1,31 @@
--- The items that are written at a place of an expression, as they are read. Assumes nothing.
-use Rattle.std.proofs.Common.{◌≡◌, ℕ, ◌+◌, ◌-◌, ◌<◌, ◌≤◌, List, [], ◌∷◌, length, sym, refl, ap, ◌∙◌, subst, arith}
-use lib.Utf8.{encode}
-use Rattle.std.proofs.lemmas.List.{drop_all, length-append, length-drop}
-use Rattle.std.proofs.lemmas.Str.{length-encode, len_utf8_bounds}
+-- The items that are written in a text, as they are read. Assumes nothing.
+use Rattle.std.proofs.Common.{◌≡◌, ℕ, ◌+◌, ◌-◌, List, [], ◌∷◌, Some, None, sym, refl, ◌∙◌, subst}
 use Rattle.grammar.specs.declared.items.Times.{Times}
-use Rattle.grammar.specs.declared.items.Times.TheVariants as u
+use Rattle.grammar.specs.declared.items.Times.TheVariants as t
 use Rattle.grammar.specs.declared.items.Item.{Item}
-use Rattle.grammar.specs.declared.items.Item.TheVariants as tok
+use Rattle.grammar.specs.declared.items.Item.TheVariants as i
+use Rattle.grammar.specs.declared.items.Items.{Items}
 use Rattle.grammar.specs.Grammar as g
-use Rattle.grammar.specs.Items.{piece_of, times_of, token_of, Reads}
-use Rattle.ways.specs.Reading.{WrittenAt}
+use Rattle.grammar.specs.Items.{times_of, IsPiece, IsItem, Written, Reads}
 
-piece_long : (x : g.Piece) (bs : List ℕ) → 0 < length (g.piece x bs)
-piece_long (g.char c) bs = omega arith
-piece_long (g.wide c) bs = omega (arith, length-append (encode c) bs, length-encode c, (len_utf8_bounds c).0)
-piece_long (g.marked c) bs = omega arith
-piece_long g.any bs = omega arith
-piece_long (g.set s) bs = omega arith
-piece_long (g.class t m ms) bs = omega arith
-
-pub item_long : (y : g.Item) (bs : List ℕ) → 0 < length (g.item y bs)
-item_long (g.takes x t) bs = piece_long x (g.times t bs)
-item_long g.start bs = omega arith
-item_long g.end bs = omega arith
-item_long (g.never d) bs = omega arith
-item_long g.opens bs = omega arith
-item_long g.closes bs = omega arith
-item_long g.bar bs = omega arith
-
-pub none_written : (e : List ℕ) (i : ℕ) (is : List g.Item) → length e ≤ i → WrittenAt e i is → is ≡ []
-none_written e i [] le h = refl
-none_written e i (y ∷ is) le h = let z = ap length (h.written ∙ drop_all i e le) in absurd (omega (arith, item_long y (g.written is)))
-
--- what was read at i, of which items are written from there on
-pub record First (e : List ℕ) (i : ℕ) (item : Item) (next : ℕ) (is : List g.Item) : Type 0 where
+-- item was read, and others are left, of a text in which the items is are written
+pub record First (item : Item) (others : Items) (is : List g.Item) : Type 0 where
   pub head : g.Item
   pub tail : List g.Item
   pub split : is ≡ head ∷ tail
-  pub token : item ≡ token_of head
-  pub here : WrittenAt e i (head ∷ tail)
-  pub behind : WrittenAt e next tail
+  pub here : IsItem item head
+  pub behind : Written others.rest.now tail
+
+pub first : (bytes : List ℕ) (item : Item) (others : Items) → Reads bytes (Some (item, others)) → (is : List g.Item) → Written bytes is → First item others is
+first bytes item others reads [] w = absurd (reads [] w)
+first bytes item others reads (y ∷ is) w = let p = reads (y ∷ is) w in record { head = y; tail = is; split = refl; here = p.0; behind = p.1 }
+
+pub none_written : (bytes : List ℕ) → Reads bytes None → (is : List g.Item) → Written bytes is → is ≡ []
+none_written bytes reads [] w = refl
+none_written bytes reads (y ∷ is) w = absurd (reads (y ∷ is) w)
 
 pub good_tail : (o d : ℕ) (y : g.Item) (is : List g.Item) → g.Good o d (y ∷ is) → (a : ℕ) × (b : ℕ) × g.Good a b is
-good_tail o d (g.takes x t) is h = (o, d, h.1)
+good_tail o d (g.takes x u) is h = (o, d, h.1)
 good_tail o d g.start is h = (o, d, h)
 good_tail o d g.end is h = (o, d, h)
 good_tail o d (g.never n) is h = (o, d, h.1)
@@ -50,46 +33,42 @@ good_tail o d g.opens is h = (o + 1, d + 1, h.1)
 good_tail o d g.closes is h = (o, d - 1, h.1)
 good_tail o d g.bar is h = (o, d, h.1)
 
-pub first : (e : List ℕ) (i : ℕ) (item : Item) (next : ℕ) → i < length e → Reads e i item next → (is : List g.Item) → WrittenAt e i is → First e i item next is
-first e i item next lt reads [] h = let z = ap length h.written in absurd (omega (arith, length-drop i e))
-first e i item next lt reads (y ∷ is) h =
-    let r = reads h.opened h.depth y is h.good h.written in
-    let t = good_tail h.opened h.depth y is h.good in
-    record { head = y; tail = is; split = refl; token = r.0; here = h; behind = record { opened = t.0; depth = t.1; good = t.2; written = sym r.1 } }
-
 -- what an item is, by what was read of it
 abbrev pub Seen : Item → g.Item → Type 0
-Seen (tok.Take t u) y = (x : g.Piece) × (v : g.Times) × (y ≡ g.takes x v) × (t ≡ piece_of x) × (u ≡ times_of v)
-Seen tok.Start y = y ≡ g.start
-Seen tok.End y = y ≡ g.end
-Seen tok.Never y = (d : ℕ) × (y ≡ g.never d)
-Seen tok.Open y = y ≡ g.opens
-Seen tok.Close y = y ≡ g.closes
-Seen tok.Bar y = y ≡ g.bar
+Seen (i.Take x u) y = (p : g.Piece) × (v : g.Times) × (y ≡ g.takes p v) × IsPiece x p × (u ≡ times_of v)
+Seen i.Start y = y ≡ g.start
+Seen i.End y = y ≡ g.end
+Seen i.Never y = (d : ℕ) × (y ≡ g.never d)
+Seen i.Open y = y ≡ g.opens
+Seen i.Close y = y ≡ g.closes
+Seen i.Bar y = y ≡ g.bar
 
-pub seen : (y : g.Item) → Seen (token_of y) y
-seen (g.takes x t) = (x, t, refl, refl, refl)
-seen g.start = refl
-seen g.end = refl
-seen (g.never d) = (d, refl)
-seen g.opens = refl
-seen g.closes = refl
-seen g.bar = refl
+pub seen : (x : Item) (y : g.Item) → IsItem x y → Seen x y
+seen x (g.takes p v) h = subst (λ k. Seen k (g.takes p v)) (sym h.1) (p, v, refl, h.2, refl)
+seen x g.start h = subst (λ k. Seen k g.start) (sym h) refl
+seen x g.end h = subst (λ k. Seen k g.end) (sym h) refl
+seen x (g.never d) h = subst (λ k. Seen k (g.never d)) (sym h) (d, refl)
+seen x g.opens h = subst (λ k. Seen k g.opens) (sym h) refl
+seen x g.closes h = subst (λ k. Seen k g.closes) (sym h) refl
+seen x g.bar h = subst (λ k. Seen k g.bar) (sym h) refl
 
-pub seen_as : (item was : Item) (y : g.Item) → item ≡ was → item ≡ token_of y → Seen was y
-seen_as item was y e t = subst (λ k. Seen k y) (sym t ∙ e) (seen y)
+pub seen_as : (x was : Item) (y : g.Item) → x ≡ was → IsItem x y → Seen was y
+seen_as x was y e h = subst (λ k. Seen k y) e (seen x y h)
 
 abbrev pub SeenTimes : Times → g.Times → Type 0
-SeenTimes u.Once y = y ≡ g.once
-SeenTimes u.Maybe y = y ≡ g.maybe
-SeenTimes u.Many y = y ≡ g.many
-SeenTimes u.Some y = y ≡ g.some
+SeenTimes t.Once y = y ≡ g.once
+SeenTimes t.Maybe y = y ≡ g.maybe
+SeenTimes t.Many y = y ≡ g.many
+SeenTimes t.Some y = y ≡ g.some
 
-seen_times : (y : g.Times) → SeenTimes (times_of y) y
-seen_times g.once = refl
-seen_times g.maybe = refl
-seen_times g.many = refl
-seen_times g.some = refl
+seen_times_of : (y : g.Times) → SeenTimes (times_of y) y
+seen_times_of g.once = refl
+seen_times_of g.maybe = refl
+seen_times_of g.many = refl
+seen_times_of g.some = refl
 
-pub seen_times_as : (times was : Times) (y : g.Times) → times ≡ was → times ≡ times_of y → SeenTimes was y
-seen_times_as times was y e t = subst (λ k. SeenTimes k y) (sym t ∙ e) (seen_times y)
+pub seen_times : (u : Times) (y : g.Times) → u ≡ times_of y → SeenTimes u y
+seen_times u y e = subst (λ k. SeenTimes k y) (sym e) (seen_times_of y)
+
+pub seen_times_as : (u was : Times) (y : g.Times) → u ≡ was → u ≡ times_of y → SeenTimes was y
+seen_times_as u was y e h = seen_times was y (sym e ∙ h)

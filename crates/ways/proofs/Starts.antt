@@ -1,10 +1,11 @@
 -- From the begin of one alternative to that of the next. Assumes nothing.
-use Rattle.std.proofs.Common.{◌≡◌, ℕ, ◌+◌, ◌-◌, ◌<◌, ◌≤◌, Bool, true, false, cond, List, [], ◌∷◌, ◌++◌, length, drop, Some, sym, refl, ap, ◌∙◌, subst, append_assoc, arith}
+use Rattle.std.proofs.Common.{◌≡◌, ℕ, ◌+◌, ◌-◌, Bool, true, false, cond, List, [], ◌∷◌, ◌++◌, drop, Some, None, sym, refl, ap, ◌∙◌, subst, append_assoc, arith}
 use Rattle.std.proofs.lemmas.List.{drop-drop, append-nil}
 use Rattle.grammar.specs.declared.items.Item.{Item}
 use Rattle.grammar.specs.declared.items.Item.TheVariants as tok
 use Rattle.grammar.specs.Grammar as g
-use Rattle.grammar.specs.Items.{token_of, Reads}
+use Rattle.grammar.specs.declared.items.Items.{Items}
+use Rattle.grammar.specs.Items.{IsItem, Written, Reads}
 use Rattle.grammar.specs.Parse.{items}
 use Rattle.ways.specs.declared.start.Start.{Start}
 use Rattle.ways.specs.Meaning.{is_bar, onto, leading, alternatives, opening, pairs}
@@ -24,19 +25,17 @@ pairs_more : (front : List g.Item) (y : g.Item) → pairs (front ++ (y ∷ [])) 
 pairs_more [] y = omega arith
 pairs_more (x ∷ front) y = ap (λ n. opening x + n) (pairs_more front y) ∙ omega arith
 
--- an alternative began at s with the items is, and t is a place in it: front stands before t, and tail from there on
-pub record Passed (e : List ℕ) (s : Start) (is : List g.Item) (t : Start) (tail : List g.Item) : Type 0 where
+-- an alternative began at s with the items is; front was read of them, and tail is left, written so, behind n items of e, with o
+-- brackets opened
+pub record Passed (e : List ℕ) (s : Start) (is : List g.Item) (bytes : List ℕ) (n o : ℕ) (tail : List g.Item) : Type 0 where
   pub front : List g.Item
   pub depth : ℕ
-  pub good : g.Good t.opened depth tail
-  pub written : g.written tail ≡ drop t.at e
-  pub rest : tail ≡ drop t.nth (items e)
-  pub opened : t.opened ≡ s.opened + pairs front
+  pub good : g.Good o depth tail
+  pub written : g.written tail ≡ bytes
+  pub rest : tail ≡ drop n (items e)
+  pub opened : o ≡ s.opened + pairs front
   pub leads : leading is ≡ front ++ leading tail
   pub parts : alternatives is ≡ on_front front (alternatives tail)
-
-on_front_none : (alts : List (List g.Item)) → (a : List g.Item) (more : List (List g.Item)) → alts ≡ a ∷ more → alts ≡ on_front [] alts
-on_front_none alts a more e = e ∙ sym (ap (on_front []) e)
 
 alternatives_some : (is : List g.Item) → (a : List g.Item) × (more : List (List g.Item)) × (alternatives is ≡ a ∷ more)
 alternatives_some [] = ([], [], refl)
@@ -50,77 +49,84 @@ alternatives_some (x ∷ is) = at (is_bar x)
     at true = ([], alternatives is, refl)
     at false = onto_some (alternatives is)
 
-pub begun : (e : List ℕ) (s : Start) (is : List g.Item) → Begins e s is → Passed e s is s is
-begun e s is b = let a = alternatives_some is in record {
-  front = [];
-  depth = 0;
-  good = b.good;
-  written = b.written;
-  rest = b.rest;
-  opened = omega arith;
-  leads = refl;
-  parts = on_front_none (alternatives is) a.0 a.1 a.2;
-}
+module _ {e : List ℕ} {s : Start} {is : List g.Item} where
+  pub begun : Begins e s is → Passed e s is s.items.rest.now s.nth s.opened is
+  begun b = let a = alternatives_some is in record {
+    front = [];
+    depth = 0;
+    good = b.good;
+    written = b.written;
+    rest = b.rest;
+    opened = omega arith;
+    leads = refl;
+    parts = a.2 ∙ sym (ap (on_front []) a.2);
+  }
 
-at_end_lem : (s : Start) (is tail front : List g.Item) → tail ≡ [] → leading is ≡ front ++ leading tail → alternatives is ≡ on_front front (alternatives tail) → alternatives is ≡ leading is ∷ []
-at_end_lem s is tail front none leads parts =
-    parts ∙ ap (λ js. on_front front (alternatives js)) none ∙ ap (λ b. b ∷ []) (sym (leads ∙ ap (λ js. front ++ leading js) none))
+  module _ {bytes : List ℕ} {n o : ℕ} {tail : List g.Item} (h : Passed e s is bytes n o tail) where
+    -- the items that are left
+    pub left : Written bytes tail
+    left = record { opened = o; depth = h.depth; good = h.good; written = h.written }
 
-pub ended : (e : List ℕ) (s : Start) (is : List g.Item) (t : Start) (tail : List g.Item) → length e ≤ t.at → Passed e s is t tail → alternatives is ≡ leading is ∷ []
-ended e s is t tail le h =
-    at_end_lem s is tail h.front (none_written e t.at tail le (record { opened = t.opened; depth = h.depth; good = h.good; written = h.written })) h.leads h.parts
+    pub ended : Reads bytes None → alternatives is ≡ leading is ∷ []
+    ended reads =
+        let none = none_written bytes reads tail left in
+        h.parts ∙ ap (λ js. on_front h.front (alternatives js)) none ∙ ap (λ b. b ∷ []) (sym (h.leads ∙ ap (λ js. h.front ++ leading js) none))
 
-module _ (e : List ℕ) (s : Start) (is : List g.Item) (t : Start) (item : Item) (next : ℕ) (lt : t.at < length e) (reads : Reads e t.at item next) (tail : List g.Item) (h : Passed e s is t tail) where
-  pub read : First e t.at item next tail
-  read = first e t.at item next lt reads tail (record { opened = t.opened; depth = h.depth; good = h.good; written = h.written })
+    module _ (item : Item) (others : Items) (reads : Reads bytes (Some (item, others))) where
+      pub read : First item others tail
+      read = first bytes item others reads tail left
 
-  behind : (y : g.Item) → read.head ≡ y → (tail ≡ y ∷ read.tail) × g.Good t.opened h.depth (y ∷ read.tail)
-  behind y same = let split : tail ≡ y ∷ read.tail = read.split ∙ ap (λ z. z ∷ read.tail) same in (split, subst (g.Good t.opened h.depth) split h.good)
+      behind : (y : g.Item) → read.head ≡ y → (tail ≡ y ∷ read.tail) × g.Good o h.depth (y ∷ read.tail)
+      behind y same = let split : tail ≡ y ∷ read.tail = read.split ∙ ap (λ z. z ∷ read.tail) same in (split, subst (g.Good o h.depth) split h.good)
 
-  pub tail_rest : read.tail ≡ drop (t.nth + 1) (items e)
-  tail_rest = ap (drop 1) (sym read.split ∙ h.rest) ∙ drop-drop 1 t.nth (items e)
+      tail_rest : read.tail ≡ drop (n + 1) (items e)
+      tail_rest = ap (drop 1) (sym read.split ∙ h.rest) ∙ drop-drop 1 n (items e)
 
-  pub at_bar : (u : Start) → u.at ≡ next → u.nth ≡ t.nth + 1 → u.opened ≡ t.opened → item ≡ tok.Bar → After e s is (Some u)
-  at_bar u ua un uo bar =
-      let b = behind g.bar (seen_as item tok.Bar read.head bar read.token) in
-      let lead : leading is ≡ h.front = h.leads ∙ ap (λ js. h.front ++ leading js) b.0 ∙ append-nil h.front in
-      let good : g.Good u.opened 0 read.tail = subst (λ (o : ℕ). g.Good o 0 read.tail) (sym uo) (subst (λ (d : ℕ). g.Good t.opened d read.tail) b.1.0 b.1.1) in (
-        read.tail,
-        record { good = good; written = read.behind.written ∙ ap (λ (n : ℕ). drop n e) (sym ua); rest = tail_rest ∙ ap (λ (n : ℕ). drop n (items e)) (sym un) },
-        h.parts ∙ ap (λ js. on_front h.front (alternatives js)) b.0 ∙ ap (λ f. f ∷ alternatives read.tail) (append-nil h.front ∙ sym lead),
-        uo ∙ h.opened ∙ ap (λ js. s.opened + pairs js) (sym lead),
-      )
+      pub at_bar : (t : Start) → t.items ≡ others → t.nth ≡ n + 1 → t.opened ≡ o → item ≡ tok.Bar → After e s is (Some t)
+      at_bar t ti tn to bar =
+          let b = behind g.bar (seen_as item tok.Bar read.head bar read.here) in
+          let lead : leading is ≡ h.front = h.leads ∙ ap (λ js. h.front ++ leading js) b.0 ∙ append-nil h.front in
+          let good : g.Good t.opened 0 read.tail = subst (λ (k : ℕ). g.Good k 0 read.tail) (sym to) (subst (λ (d : ℕ). g.Good o d read.tail) b.1.0 b.1.1) in (
+            read.tail,
+            record { good = good; written = read.behind.written ∙ ap (λ r. r.rest.now) (sym ti); rest = tail_rest ∙ ap (λ (k : ℕ). drop k (items e)) (sym tn) },
+            h.parts ∙ ap (λ js. on_front h.front (alternatives js)) b.0 ∙ ap (λ f. f ∷ alternatives read.tail) (append-nil h.front ∙ sym lead),
+            to ∙ h.opened ∙ ap (λ js. s.opened + pairs js) (sym lead),
+          )
 
-  passing : (u : Start) (y : g.Item) (d : ℕ) → read.head ≡ y → is_bar y ≡ false → u.at ≡ next → u.nth ≡ t.nth + 1 → u.opened ≡ t.opened + opening y → g.Good u.opened d read.tail → Passed e s is u read.tail
-  passing u y d same plain ua un uo good =
-      let split = (behind y same).0 in
-      let lead : leading tail ≡ y ∷ leading read.tail = ap leading split ∙ ap (λ c. cond c [] (y ∷ leading read.tail)) plain in
-      let part : alternatives tail ≡ onto y (alternatives read.tail) = ap alternatives split ∙ ap (λ c. cond c ([] ∷ alternatives read.tail) (onto y (alternatives read.tail))) plain in
-      record {
-        front = h.front ++ (y ∷ []);
-        depth = d;
-        good = good;
-        written = read.behind.written ∙ ap (λ (n : ℕ). drop n e) (sym ua);
-        rest = tail_rest ∙ ap (λ (n : ℕ). drop n (items e)) (sym un);
-        opened = uo ∙ ap (λ n. n + opening y) h.opened ∙ let p = pairs_more h.front y in omega (arith, p);
-        leads = h.leads ∙ ap (λ js. h.front ++ js) lead ∙ sym (append_assoc h.front (y ∷ []) (leading read.tail));
-        parts = h.parts ∙ ap (on_front h.front) part ∙ on_front_onto h.front y (alternatives read.tail);
-      }
+      passing : (y : g.Item) (d : ℕ) → read.head ≡ y → is_bar y ≡ false → g.Good (o + opening y) d read.tail → Passed e s is others.rest.now (n + 1) (o + opening y) read.tail
+      passing y d same plain good =
+          let split = (behind y same).0 in
+          let lead : leading tail ≡ y ∷ leading read.tail = ap leading split ∙ ap (λ c. cond c [] (y ∷ leading read.tail)) plain in
+          let part : alternatives tail ≡ onto y (alternatives read.tail) = ap alternatives split ∙ ap (λ c. cond c ([] ∷ alternatives read.tail) (onto y (alternatives read.tail))) plain in
+          let more = pairs_more h.front y in
+          record {
+            front = h.front ++ (y ∷ []);
+            depth = d;
+            good = good;
+            written = read.behind.written;
+            rest = tail_rest;
+            opened = omega (arith, h.opened);
+            leads = h.leads ∙ ap (λ js. h.front ++ js) lead ∙ sym (append_assoc h.front (y ∷ []) (leading read.tail));
+            parts = h.parts ∙ ap (on_front h.front) part ∙ on_front_onto h.front y (alternatives read.tail);
+          }
 
-  pub at_open : (u : Start) → u.at ≡ next → u.nth ≡ t.nth + 1 → u.opened ≡ t.opened + 1 → item ≡ tok.Open → Passed e s is u read.tail
-  at_open u ua un uo open' =
-      let same = seen_as item tok.Open read.head open' read.token in
-      let b = behind g.opens same in
-      passing u g.opens (h.depth + 1) same refl ua un uo (subst (λ (o : ℕ). g.Good o (h.depth + 1) read.tail) (sym uo) b.1.1)
+      pub at_open : item ≡ tok.Open → Passed e s is others.rest.now (n + 1) (o + 1) read.tail
+      at_open open' = let same = seen_as item tok.Open read.head open' read.here in passing g.opens (h.depth + 1) same refl (behind g.opens same).1.1
 
-  other_as : (u : Start) → u.at ≡ next → u.nth ≡ t.nth + 1 → u.opened ≡ t.opened → (y : g.Item) → read.head ≡ y → (item ≡ tok.Bar → ⊥) → (item ≡ tok.Open → ⊥) → item ≡ token_of y → Passed e s is u read.tail
-  other_as u ua un uo (g.takes x v) same nb no' tk = passing u (g.takes x v) h.depth same refl ua un (uo ∙ omega arith) (subst (λ (o : ℕ). g.Good o h.depth read.tail) (sym uo) (behind (g.takes x v) same).1.1)
-  other_as u ua un uo g.start same nb no' tk = passing u g.start h.depth same refl ua un (uo ∙ omega arith) (subst (λ (o : ℕ). g.Good o h.depth read.tail) (sym uo) (behind g.start same).1)
-  other_as u ua un uo g.end same nb no' tk = passing u g.end h.depth same refl ua un (uo ∙ omega arith) (subst (λ (o : ℕ). g.Good o h.depth read.tail) (sym uo) (behind g.end same).1)
-  other_as u ua un uo (g.never d) same nb no' tk = passing u (g.never d) h.depth same refl ua un (uo ∙ omega arith) (subst (λ (o : ℕ). g.Good o h.depth read.tail) (sym uo) (behind (g.never d) same).1.1)
-  other_as u ua un uo g.opens same nb no' tk = absurd (no' tk)
-  other_as u ua un uo g.closes same nb no' tk = passing u g.closes (h.depth - 1) same refl ua un (uo ∙ omega arith) (subst (λ (o : ℕ). g.Good o (h.depth - 1) read.tail) (sym uo) (behind g.closes same).1.1)
-  other_as u ua un uo g.bar same nb no' tk = absurd (nb tk)
+      -- an item that opens no bracket
+      quiet : (y : g.Item) (d : ℕ) → read.head ≡ y → is_bar y ≡ false → opening y ≡ 0 → g.Good o d read.tail → Passed e s is others.rest.now (n + 1) o read.tail
+      quiet y d same plain none good =
+          let sum : o + opening y ≡ o = omega arith in
+          subst (λ (k : ℕ). Passed e s is others.rest.now (n + 1) k read.tail) sum (passing y d same plain (subst (λ (k : ℕ). g.Good k d read.tail) (sym sum) good))
 
-  pub at_other : (u : Start) → u.at ≡ next → u.nth ≡ t.nth + 1 → u.opened ≡ t.opened → (item ≡ tok.Bar → ⊥) → (item ≡ tok.Open → ⊥) → Passed e s is u read.tail
-  at_other u ua un uo nb no' = other_as u ua un uo read.head refl nb no' read.token
+      other_as : (y : g.Item) → read.head ≡ y → (item ≡ tok.Bar → ⊥) → (item ≡ tok.Open → ⊥) → IsItem item y → Passed e s is others.rest.now (n + 1) o read.tail
+      other_as (g.takes x v) same nb no' tk = quiet (g.takes x v) h.depth same refl refl (behind (g.takes x v) same).1.1
+      other_as g.start same nb no' tk = quiet g.start h.depth same refl refl (behind g.start same).1
+      other_as g.end same nb no' tk = quiet g.end h.depth same refl refl (behind g.end same).1
+      other_as (g.never d) same nb no' tk = quiet (g.never d) h.depth same refl refl (behind (g.never d) same).1.1
+      other_as g.opens same nb no' tk = absurd (no' tk)
+      other_as g.closes same nb no' tk = quiet g.closes (h.depth - 1) same refl refl (behind g.closes same).1.1
+      other_as g.bar same nb no' tk = absurd (nb tk)
+
+      pub at_other : (item ≡ tok.Bar → ⊥) → (item ≡ tok.Open → ⊥) → Passed e s is others.rest.now (n + 1) o read.tail
+      at_other nb no' = other_as read.head refl nb no' read.here

@@ -3,5 +3,5 @@ pub mod Ways
 pub mod Groups
 pub mod Pieces
 pub mod Meaning
-pub mod Reading
 pub mod Starts
+pub mod Matched

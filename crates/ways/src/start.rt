@@ -1,51 +1,110 @@
 // Where the alternatives of an expression begin.
-ghost use Rattle.std.specs.Prelude.{◌≡◌, ◌<◌, ◌≤◌, List, length};
+ghost use Rattle.std.specs.Prelude.{◌≡◌, ℕ, ◌+◌, ◌<◌, ◌^◌, List, length, IfSome};
 ghost use Rattle.grammar.specs.Grammar as g;
-ghost use Rattle.ways.specs.Starts.{Begins, After, Onward};
+ghost use Rattle.grammar.specs.Parse.{items as items_of};
 
-use grammar::items::{Item, item_at};
+use grammar::expression::Expression;
+use grammar::items::{Item, Items};
 
 // The begin of an alternative.
 #[derive(Clone, Copy)]
-pub struct Start {
-    // its first byte
-    pub at: usize,
+pub struct Start<'a> {
+    // its items, and those behind it
+    pub items: Items<'a>,
     // how many items stand before it
     pub nth: usize,
     // how many pairs of brackets were opened before it
     pub opened: usize,
+    // each item has a byte, and a text is shorter than 2 ^ 63, so neither count overflows on the way to the end
+    ghost few: { (nth + length items.rest.now < 2 ^ 63) × (opened + length items.rest.now < 2 ^ 63) },
 }
 
-impl Start {
+impl<'a> Start<'a> {
+    ghost use Rattle.ways.specs.Starts.{Begins, After};
+
     // The begin of the first alternative.
-    pub fn first() -> Start
-        ensures { result ≡ record { at = 0; nth = 0; opened = 0 } }
+    pub fn first(expression: &Expression<'a>) -> Start<'a>
+        ensures whole { (result.items.rest.now ≡ expression.now.text.now) × (result.nth ≡ 0) × (result.opened ≡ 0) }
+        ensures begins { Begins expression.now.text.now result (items_of expression.now.text.now) }
     {
         Start {
-            at: 0,
+            items: expression.items(),
             nth: 0,
             opened: 0,
         }
     }
 
     // The begin of the next alternative, if there is one. Reads this one to its end.
-    pub fn next(self, expression: &[u8]) -> Option<Start>
-        requires within { self.at ≤ length expression.now }
-        requires few { (self.nth ≤ self.at) × (self.opened ≤ self.at) }
-        ensures onward { Onward expression.now self result }
-        ensures after { (is : List g.Item) → Begins expression.now self is → After expression.now self is result }
+    pub fn next(&self) -> Option<Start<'a>>
+        ensures onward { IfSome result (λ s. length s.items.rest.now < length self.now.items.rest.now) }
+        ensures after { (e : List ℕ) (is : List g.Item) → Begins e self.now is → After e self.now is result }
     {
-        let mut start = self;
-        while start.at < expression.len() {
-            let (item, next) = item_at(expression, start.at);
-            start.at = next;
-            start.nth += 1;
+        let Start {
+            mut items,
+            mut nth,
+            mut opened,
+        } = *self;
+        while let Some((item, others)) = items.split_first() {
+            items = others;
+            nth += 1;
             match item {
-                Item::Bar => return Some(start),
-                Item::Open => start.opened += 1,
+                Item::Bar => {
+                    return Some(Start { items, nth, opened });
+                }
+                Item::Open => opened += 1,
                 _ => {}
             }
         }
         None
+    }
+}
+
+// The alternatives that are left of an expression, left to right. The one behind the next is known already, so that going
+// through them from the first costs no reading where that one matches.
+#[derive(Clone, Copy)]
+pub struct Alternatives<'a> {
+    pub next: Option<Start<'a>>,
+    pub after: Option<Start<'a>>,
+}
+
+impl<'a> Alternatives<'a> {
+    ghost use Rattle.ways.specs.Meaning.{alternatives};
+    ghost use Rattle.ways.specs.Starts.{Left, Gives};
+
+    // All of them.
+    pub fn new(expression: &Expression<'a>) -> Alternatives<'a>
+        ensures { Left expression.now.text.now 0 result (alternatives (items_of expression.now.text.now)) }
+    {
+        let first = Start::first(expression);
+        Alternatives {
+            next: Some(first),
+            after: first.next(),
+        }
+    }
+
+    // The next one, and the others are left.
+    pub fn advance(&mut self) -> Option<Start<'a>>
+        ensures gives { (e : List ℕ) (n : ℕ) (alts : List (List g.Item)) → Left e n self.old alts → Gives e n alts result self.new }
+    {
+        self.next()
+    }
+}
+
+impl<'a> Iterator for Alternatives<'a> {
+    ghost use Rattle.std.specs.Iterator.{at_most};
+    ghost use Rattle.ways.specs.Starts.{Advances, count_left};
+
+    type Item = Start<'a>;
+
+    // Of the alternatives that were left the first is given, and the others are left.
+    ghost next_gives = { Advances };
+
+    ghost remaining = { λ a. at_most (count_left a) };
+
+    fn next(&mut self) -> Option<Start<'a>> {
+        let next = self.next?;
+        self.next = self.after;
+        self.after = self.after.and_then(|start| start.next());
+        Some(next)
     }
 }
