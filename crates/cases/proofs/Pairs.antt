@@ -162,4 +162,3 @@ pairs_join k field pairs rest front back none =
 pub spelled_filled : (field bs : List ℕ) → 0 < length field → written bs ≡ field → spelled bs ≡ field
 spelled_filled field [] lt is = let e = ap length is in absurd (omega arith)
 spelled_filled field (b ∷ bs) lt is = is
-

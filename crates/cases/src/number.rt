@@ -25,5 +25,7 @@ pub(crate) fn read_number(field: &[u8]) -> Result<u32, Fault>
     if field.is_empty() {
         return Err(Fault::NoDigits);
     }
-    field.iter().try_fold(0, |value, digit| grown(value, *digit))
+    field
+        .iter()
+        .try_fold(0, |value, digit| grown(value, *digit))
 }
