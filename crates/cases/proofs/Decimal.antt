@@ -66,8 +66,8 @@ before n d ds dig (Err NoHexadecimal) real l = l
 before n d ds dig (Err Memory) real l = l
 
 ends : (n : ℕ) (ds : List ℕ) → ds ≡ [] → number_from n ds ≡ Err NoDigits → ⊥
-ends n [] e h = let z : ◌≡◌ {A = ℕ} 0 1 = cc in omega arith
-ends n (d ∷ ds) e h = let z : ◌≡◌ {A = ℕ} 0 1 = cc in omega arith
+ends n [] e h = cc
+ends n (d ∷ ds) e h = cc
 
 law_by : (n d : ℕ) (ds : List ℕ) → n ≤ most → Grew n d → ((m : ℕ) → m ≤ most → Law m ds (number_from m ds)) → Law n (d ∷ ds) (go_on (grown n d) (λ m. number_from m ds))
 law_by n d ds le (fits dig small is) more =

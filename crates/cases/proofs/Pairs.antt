@@ -10,36 +10,15 @@ use Rattle.cases.specs.declared.fault.Fault.{Fault}
 use Rattle.cases.specs.declared.fault.Fault.TheVariants.{NoHexadecimal}
 use Rattle.cases.specs.Hex.{digit_of, byte_of, digit, digits, written, spelled, Illegible, Faulty}
 
--- the value that a digit has is written as that digit
-value_is : (b v : ℕ) → digit_of b ≡ Some v → (v < 16) × (digit v ≡ b)
-value_is b v h = grind (arith, nat_tests)
-
 -- a digit that is written has a value
 read_back : (v : ℕ) → v < 16 → digit_of (digit v) ≡ None → ⊥
 read_back v lt h = grind (arith, nat_tests)
 
-byte_by : (h l b : ℕ) (o p : Option ℕ) → digit_of h ≡ o → digit_of l ≡ p → byte_of o p ≡ Some b → (digit (b / 16) ≡ h) × (digit (b % 16) ≡ l)
-byte_by h l b (Some x) (Some y) eh el is =
-    let same : x * 16 + y ≡ b = cc in
-    let high = value_is h x eh in
-    let low = value_is l y el in
-    let a = high.0 in
-    let c = low.0 in
-    let q : b / 16 ≡ x = omega arith in
-    let r : b % 16 ≡ y = omega arith in
-    (ap digit q ∙ high.1, ap digit r ∙ low.1)
-byte_by h l b (Some x) None eh el is = let z : ◌≡◌ {A = ℕ} 0 1 = cc in absurd (omega arith)
-byte_by h l b None (Some y) eh el is = let z : ◌≡◌ {A = ℕ} 0 1 = cc in absurd (omega arith)
-byte_by h l b None None eh el is = let z : ◌≡◌ {A = ℕ} 0 1 = cc in absurd (omega arith)
+byte_written : (h l b : ℕ) → byte_of (digit_of h) (digit_of l) ≡ Some b → (digit (b / 16) ≡ h) × (digit (b % 16) ≡ l)
+byte_written h l b is = grind (arith, nat_tests)
 
-pub byte_written : (h l b : ℕ) → byte_of (digit_of h) (digit_of l) ≡ Some b → (digit (b / 16) ≡ h) × (digit (b % 16) ≡ l)
-byte_written h l b is = byte_by h l b (digit_of h) (digit_of l) refl refl is
-
-no_byte_by : (h l : ℕ) (o p : Option ℕ) → digit_of h ≡ o → digit_of l ≡ p → byte_of o p ≡ None → (digit_of h ≡ None) ⊎ (digit_of l ≡ None)
-no_byte_by h l (Some x) (Some y) eh el is = let z : ◌≡◌ {A = ℕ} 0 1 = cc in absurd (omega arith)
-no_byte_by h l (Some x) None eh el is = inr el
-no_byte_by h l None (Some y) eh el is = inl eh
-no_byte_by h l None None eh el is = inl eh
+no_byte : (h l : ℕ) → byte_of (digit_of h) (digit_of l) ≡ None → (digit_of h ≡ None) ⊎ (digit_of l ≡ None)
+no_byte h l is = grind (arith, nat_tests)
 
 -- What can't be read is written by no bytes.
 length_written : (bs : List ℕ) → length (written bs) ≡ 2 * length bs
@@ -55,13 +34,6 @@ written_digits (b ∷ bs) bytes (suc (suc k)) lt h = written_digits bs bytes.1 k
 spelled_length : (bs field : List ℕ) → spelled bs ≡ field → ((length field ≡ 1) × (bs ≡ [])) ⊎ ((written bs ≡ field) × (0 < length bs))
 spelled_length [] field is = inl (sym (ap length is), refl)
 spelled_length (b ∷ bs) field is = inr (is, omega arith)
-
-pub illegible_empty : (field : List ℕ) → length field ≡ 0 → Illegible field
-illegible_empty field none bs bytes is =
-    ⊎_elim
-    (λ hyphen. let one = hyphen.0 in omega arith)
-    (λ filled. let n = length_written bs in let m = ap length filled.0 in let some = filled.1 in omega arith)
-    (spelled_length bs field is)
 
 pub illegible_odd : (field : List ℕ) → length field % 2 ≡ 1 → (field ≡ 45 ∷ [] → ⊥) → Illegible field
 illegible_odd field odd not bs bytes is =
@@ -123,14 +95,14 @@ no_pair pairs bytes i lt two is read =
     ⊎_elim
     (λ (high : digit_of (get_or pair 0 0) ≡ None). no_digit (concat pairs) (length done + 0) (omega arith) (omega arith) (rw (← whole, get_or-append-add done (get_or pair 0 0 ∷ get_or pair 1 0 ∷ rest) 0 0) high))
     (λ low. no_digit (concat pairs) (length done + 1) (omega arith) (omega arith) (rw (← whole, get_or-append-add done (get_or pair 0 0 ∷ get_or pair 1 0 ∷ rest) 1 0) low))
-    (no_byte_by (get_or pair 0 0) (get_or pair 1 0) (digit_of (get_or pair 0 0)) (digit_of (get_or pair 1 0)) refl refl is)
+    (no_byte (get_or pair 0 0) (get_or pair 1 0) is)
   where
     no_digit : (field : List ℕ) (k : ℕ) → length field % 2 ≡ 0 → k < length field → digit_of (get_or field k 0) ≡ None → Faulty NoHexadecimal field
     no_digit field k even lt none = ((k, lt, none), illegible_at field k even lt none)
 
 -- a pair that is refused
 pub refused_pair : (pairs : List (List ℕ)) (bytes : List ℕ) (i : ℕ) (o : Option ℕ) (x : Fault) → i < length pairs → Paired pairs → o ≡ byte_of (digit_of (get_or (get_or pairs i []) 0 0)) (digit_of (get_or (get_or pairs i []) 1 0)) → ok_or o NoHexadecimal ≡ Err x → written bytes ++ concat (drop i pairs) ≡ concat pairs → Faulty x (concat pairs)
-refused_pair pairs bytes i (Some b) x lt two byte is read = let z : ◌≡◌ {A = ℕ} 0 1 = cc in absurd (omega arith)
+refused_pair pairs bytes i (Some b) x lt two byte is read = cc
 refused_pair pairs bytes i None x lt two byte is read =
     let blamed : x ≡ NoHexadecimal = cc in
     rw blamed (no_pair pairs bytes i lt two (sym byte) read)
