@@ -3,7 +3,8 @@ use Rattle.std.specs.Result.{IsErr, IsErrAnd, result_from_control_flow}
 use Rattle.std.proofs.lemmas.Bool.{eqb-true, eqb-false}
 use Rattle.std.proofs.lemmas.Result.{err_from_is_err_and}
 use Rattle.cases.specs.Number.{number_from, number_of}
-use Rattle.cases.proofs.Decimal.{number_from-try_fold, number_empty, number_filled, told_at}
+use Rattle.cases.proofs.Decimal.{number_empty, number_filled, told_at}
+use Rattle.cases.proofs.Folded.{number_from-try_fold}
 use Rattle.cases.proofs.number.read_number.Goals as goal
 
 pub returns-then-is_empty : goal.returns-then-is_empty
