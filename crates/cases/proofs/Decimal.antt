@@ -1,9 +1,8 @@
 -- What reading a number says of its digits. Assumes nothing.
-use Rattle.std.proofs.Common.{◌≡◌, ℕ, suc, ◌+◌, ◌-◌, ◌*◌, ◌<◌, ◌≤◌, true, false, cond, ◌||◌, ltb, leb, List, [], ◌∷◌, length, get_or, drop, Ok, Err, Result, sym, refl, ap, ◌∙◌, subst, ⊎_elim, arith, le-ltb, lt-ltb, le-leb, MatchResult}
-use Rattle.std.proofs.lemmas.List.{at_drop_more}
-use borrow.Author.Tests.{lt-leb}
+use Rattle.std.proofs.Common.{◌≡◌, ℕ, suc, ◌+◌, ◌-◌, ◌*◌, ◌<◌, ◌≤◌, List, [], ◌∷◌, length, Ok, Err, Result, sym, refl, subst, ⊎_elim, arith, MatchResult}
 use Rattle.std.specs.List.{AllByRecursion}
-use Rattle.std.proofs.lemmas.Bool.{cond-true, cond-false, cases_lt, or_left, or_right, or_from}
+use Rattle.std.proofs.lemmas.Bool.{cases_lt}
+use Rattle.std.proofs.lemmas.Bool.Decides.{nat_tests}
 use Rattle.cases.specs.declared.fault.Fault.{Fault}
 use Rattle.cases.specs.declared.fault.Fault.TheVariants.{Missing, Extra, NoDigits, NoDigit, TooLarge, NoBytes, OddDigits, NoHexadecimal, Memory}
 use Rattle.cases.specs.Number.{most, grown, go_on, number_from, number_of, Digit, value_from, Writes, BlamedFrom, Blamed}
@@ -14,24 +13,16 @@ data Grew (n d : ℕ) : Type 0 where
   no_digit : (Digit d → ⊥) → grown n d ≡ Err NoDigit → Grew n d
   large : Digit d → most < n * 10 + (d - 48) → grown n d ≡ Err TooLarge → Grew n d
 
-within : (n d : ℕ) → (ltb d 48 || ltb 57 d) ≡ false → (m : ℕ) → m ≡ n * 10 + (d - 48) → grown n d ≡ cond (leb m most) (Ok m) (Err TooLarge)
-within n d f m is = cond-false (ltb d 48 || ltb 57 d) _ _ f ∙ ap (λ k. cond (leb k most) (Ok k) (Err TooLarge)) (sym is)
-
-outside : (n d : ℕ) → (ltb d 48 || ltb 57 d) ≡ true → grown n d ≡ Err NoDigit
-outside n d t = cond-true (ltb d 48 || ltb 57 d) _ _ t
-
 grew : (n d : ℕ) → Grew n d
 grew n d =
     ⊎_elim
-    (λ (low : d < 48). no_digit (λ x. omega arith) (outside n d (or_left (ltb d 48) (ltb 57 d) (lt-ltb d 48 low))))
+    (λ (low : d < 48). no_digit (λ x. omega arith) (grind (arith, nat_tests)))
     (λ ge. ⊎_elim
-    (λ (high : 57 < d). no_digit (λ x. omega arith) (outside n d (or_right (ltb d 48) (ltb 57 d) (lt-ltb 57 d high))))
-    (λ le. let m = n * 10 + (d - 48) in
-    let f = or_from (ltb d 48) (ltb 57 d) (le-ltb d 48 ge) (le-ltb 57 d le) in
-    ⊎_elim
-    (λ (over : most < m). large (ge, le) over (within n d f m refl ∙ cond-false (leb m most) _ _ (lt-leb m most over)))
-    (λ small. fits (ge, le) small (within n d f m refl ∙ cond-true (leb m most) _ _ (le-leb m most small)))
-    (cases_lt most m))
+    (λ (high : 57 < d). no_digit (λ x. omega arith) (grind (arith, nat_tests)))
+    (λ le. ⊎_elim
+    (λ (over : most < n * 10 + (d - 48)). large (ge, le) over (grind (arith, nat_tests)))
+    (λ small. fits (ge, le) small (grind (arith, nat_tests)))
+    (cases_lt most (n * 10 + (d - 48))))
     (cases_lt 57 d))
     (cases_lt d 48)
 
@@ -58,8 +49,8 @@ before n d ds dig (Err NoHexadecimal) real l = l
 before n d ds dig (Err Memory) real l = l
 
 ends : (n : ℕ) (ds : List ℕ) → ds ≡ [] → number_from n ds ≡ Err NoDigits → ⊥
-ends n [] e h = let z : ◌≡◌ {A = ℕ} 0 1 = cc in omega arith
-ends n (d ∷ ds) e h = let z : ◌≡◌ {A = ℕ} 0 1 = cc in omega arith
+ends n [] e h = cc
+ends n (d ∷ ds) e h = cc
 
 law_by : (n d : ℕ) (ds : List ℕ) → n ≤ most → Grew n d → ((m : ℕ) → m ≤ most → Law m ds (number_from m ds)) → Law n (d ∷ ds) (go_on (grown n d) (λ m. number_from m ds))
 law_by n d ds le (fits dig small is) more =
@@ -92,7 +83,3 @@ number_empty (d ∷ ds) h = absurd (omega arith)
 
 pub told_at : (field : List ℕ) (r : Result ℕ Fault) → r ≡ number_of field → MatchResult r (λ n. Writes n field) (λ x. Blamed x field)
 told_at field r is = subst (λ (q : Result ℕ Fault). MatchResult q (λ n. Writes n field) (λ x. Blamed x field)) (sym is) (law field)
-
--- one turn of the loop
-pub turn : (field : List ℕ) (i value : ℕ) (r : Result ℕ Fault) → i < length field → grown value (get_or field i 0) ≡ r → number_from value (drop i field) ≡ go_on r (λ m. number_from m (drop (i + 1) field))
-turn field i value r lt is = at_drop_more (number_from value) field i 0 lt ∙ ap (λ q. go_on q (λ m. number_from m (drop (i + 1) field))) is

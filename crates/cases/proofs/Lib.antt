@@ -1,3 +1,4 @@
 pub mod Parts
 pub mod Decimal
+pub mod Folded
 pub mod Pairs

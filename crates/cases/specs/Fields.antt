@@ -1,18 +1,13 @@
 -- A record and its fields. Assumes nothing.
-use Rattle.std.specs.Prelude.{◌≡◌, ℕ, ◌<◌, cond, ◌⊎◌, List, [], ◌∷◌, ◌++◌, length, Some, None, Ok, Err, Option, Result, ◌==◌, ◌≢◌, slice_index}
+use Rattle.std.specs.Prelude.{◌≡◌, ℕ, ◌<◌, ◌⊎◌, List, [], ◌∷◌, length, Some, None, Ok, Err, Option, Result, ◌==◌, ◌≢◌, slice_index}
 use Rattle.std.specs.Borrow.{Bor}
+use Rattle.std.specs.List.{AllByRecursion, join_with_byte, slice_split}
 use Rattle.cases.specs.declared.fault.Fault.{Fault}
 use Rattle.cases.specs.declared.fault.Fault.TheVariants.{Missing}
-use Rattle.std.specs.List.{AllByRecursion}
-
-abbrev pub onto : ℕ → List (List ℕ) → List (List ℕ)
-onto b [] = (b ∷ []) ∷ []
-onto b (field ∷ fields) = (b ∷ field) ∷ fields
 
 -- the fields of a record: what stands between its spaces
 abbrev pub fields_of : List ℕ → List (List ℕ)
-fields_of [] = [] ∷ []
-fields_of (b ∷ bs) = cond (b == 32) ([] ∷ fields_of bs) (onto b (fields_of bs))
+fields_of bytes = slice_split (λ b. b == 32) bytes
 
 -- the fields that are left, where the rest of the record is known
 abbrev pub left : Option (Bor (List ℕ)) → List (List ℕ)
@@ -21,9 +16,7 @@ left (Some rest) = fields_of rest.now
 
 -- fields written with one space between
 abbrev pub spaced : List (List ℕ) → List ℕ
-spaced [] = []
-spaced (f ∷ []) = f
-spaced (f ∷ (g ∷ gs)) = f ++ 32 ∷ spaced (g ∷ gs)
+spaced fields = join_with_byte 32 fields
 
 abbrev pub Whole : List ℕ → Type 0
 Whole field = (k : ℕ) → k < length field → slice_index field k ≢ 32

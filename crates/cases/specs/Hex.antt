@@ -1,6 +1,6 @@
 -- Bytes in lower-case hexadecimal. Assumes nothing.
 use Rattle.std.specs.Prelude.{◌≡◌, ℕ, ◌+◌, ◌-◌, ◌*◌, ◌/◌, ◌%◌, ◌<◌, cond, List, [], ◌∷◌, length, Some, None, Option, ◌≢◌, nat_lt, slice_index}
-use Rattle.std.specs.List.{AllByRecursion}
+use Rattle.std.specs.List.{AllByRecursion, flat_map}
 use Rattle.cases.specs.declared.fault.Fault.{Fault}
 use Rattle.cases.specs.declared.fault.Fault.TheVariants.{Missing, Extra, NoDigits, NoDigit, TooLarge, NoBytes, OddDigits, NoHexadecimal, Memory}
 
@@ -18,9 +18,11 @@ byte_of None None = None
 abbrev pub digit : ℕ → ℕ
 digit v = cond (nat_lt v 10) (48 + v) (87 + v)
 
+abbrev pub digits : ℕ → List ℕ
+digits b = digit (b / 16) ∷ digit (b % 16) ∷ []
+
 abbrev pub written : List ℕ → List ℕ
-written [] = []
-written (b ∷ bs) = digit (b / 16) ∷ digit (b % 16) ∷ written bs
+written bs = flat_map digits bs
 
 -- no bytes are written as one hyphen
 abbrev pub spelled : List ℕ → List ℕ

@@ -3,46 +3,33 @@ ghost use Rattle.std.specs.Prelude.{◌≡◌};
 ghost use Rattle.cases.specs.declared.fault.Fault.TheVariants.{Memory};
 
 use std::alloc::{AllocError, AllocFailed};
-use std::fmt;
+use thiserror::Error;
 
-#[derive(Clone, Copy)]
+#[derive(Clone, Copy, Debug, PartialEq, Eq, Error)]
 pub enum Fault {
     // no field is left
+    #[error("a field is missing")]
     Missing,
     // a field is left over
+    #[error("there are more fields than the record has")]
     Extra,
+    #[error("a number has no digits")]
     NoDigits,
+    #[error("a number has a character that is no digit")]
     NoDigit,
+    #[error("a number is above 4294967295")]
     TooLarge,
+    #[error("a field of bytes is empty")]
     NoBytes,
+    #[error("a field of bytes has an odd number of digits")]
     OddDigits,
+    #[error("a field of bytes has a character that is no lower-case hexadecimal digit")]
     NoHexadecimal,
+    #[error("there is not enough memory")]
     Memory,
 }
 
-impl Fault {
-    fn text(self) -> &'static str {
-        match self {
-            Fault::Missing => "a field is missing",
-            Fault::Extra => "there are more fields than the record has",
-            Fault::NoDigits => "a number has no digits",
-            Fault::NoDigit => "a number has a character that is no digit",
-            Fault::TooLarge => "a number is above 4294967295",
-            Fault::NoBytes => "a field of bytes is empty",
-            Fault::OddDigits => "a field of bytes has an odd number of digits",
-            Fault::NoHexadecimal =>
-                "a field of bytes has a character that is no lower-case hexadecimal digit",
-            Fault::Memory => "there is not enough memory",
-        }
-    }
-}
-
-impl fmt::Display for Fault {
-    fn fmt<W: fmt::Write>(&self, f: &mut fmt::Formatter<W>) -> fmt::Result {
-        f.write_str(self.text())
-    }
-}
-
+// By hand, and not by `#[from]`, so that clauses can name the error that a `?` makes.
 impl From<AllocError> for Fault {
     ghost from_gives = { λ _ r. r ≡ Memory };
 

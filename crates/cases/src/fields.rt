@@ -1,5 +1,5 @@
 // The fields of a record, one after the other.
-ghost use Rattle.std.specs.Prelude.{◌≡◌, ℕ, ◌<◌, List, [], ◌∷◌, length, MatchOption, MatchResult, ◌≢◌, slice_index};
+ghost use Rattle.std.specs.Prelude.{◌≡◌, ◌<◌, ◌==◌, [], ◌∷◌, length, position, MatchResult};
 ghost use Rattle.cases.specs.declared.fault.Fault.TheVariants.{Missing as NoneLeft, Extra as SomeLeft};
 ghost use Rattle.cases.specs.Fields.{fields_of, left, Parted, Takes};
 ghost use Rattle.cases.specs.Number.{Writes, Blamed};
@@ -9,17 +9,13 @@ use crate::fault::Fault;
 use crate::hex::read_bytes;
 use crate::number::read_number;
 use std::alloc::Global;
+use std::marker::Model;
 
 // Where the first space stands.
 fn first_space(bytes: &[u8]) -> Option<usize>
-    ensures { MatchOption result ((k : ℕ) → k < length bytes.now → slice_index bytes.now k ≢ 32) (λ n. (n < length bytes.now) × (slice_index bytes.now n ≡ 32) × ((k : ℕ) → k < n → slice_index bytes.now k ≢ 32)) }
+    ensures { result ≡ position (λ b. b == 32) bytes.now }
 {
-    for (i, b) in bytes.iter().enumerate() {
-        if *b == b' ' {
-            return Some(i);
-        }
-    }
-    None
+    bytes.iter().position(|b| *b == b' ')
 }
 
 // The first field, and the record behind its space.
@@ -27,25 +23,48 @@ fn split_field(bytes: &[u8]) -> (&[u8], Option<&[u8]>)
     ensures { fields_of bytes.now ≡ result.0.now ∷ left result.1 }
 {
     match first_space(bytes) {
-        Some(at) => {
-            let (field, space) = bytes.split_at(at);
-            let (_, behind) = space.split_at(1);
-            (field, Some(behind))
-        }
+        Some(at) => (&bytes[..at], Some(&bytes[at + 1..])),
         None => (bytes, None),
     }
 }
 
-// A cursor over the fields that are left of a record.
-#[derive(Clone, Copy)]
+// The fields that are left of a record, as an iterator.
+#[derive(Clone, Drop)]
 pub struct Fields<'a> {
     // none behind the last field
     rest: Option<&'a [u8]>,
 }
 
+// In clauses it is the list of the fields that are left.
+impl<'a> Model for Fields<'a> {
+    ghost use Rattle.std.specs.Prelude.{List, ℕ};
+    ghost use Rattle.cases.specs.Fields.{left};
+
+    ghost Value = { List (List ℕ) };
+
+    ghost view = { λ fields. left fields.rest };
+}
+
+impl<'a> Iterator for Fields<'a> {
+    type Item = &'a [u8];
+
+    ghost use Rattle.std.specs.Iterator.{YieldsFirstRef, item_count};
+
+    ghost next_gives = { YieldsFirstRef (λ fields. fields) };
+
+    ghost remaining = { item_count (λ fields. fields) };
+
+    fn next(&mut self) -> Option<&'a [u8]> {
+        let rest = self.rest?;
+        let (field, behind) = split_field(rest);
+        self.rest = behind;
+        Some(field)
+    }
+}
+
 impl<'a> Fields<'a> {
     pub fn new(bytes: &'a [u8]) -> Fields<'a>
-        ensures all { left result.rest ≡ fields_of bytes.now }
+        ensures all { result ≡ fields_of bytes.now }
         ensures parted { Parted bytes.now }
     {
         Fields { rest: Some(bytes) }
@@ -53,33 +72,28 @@ impl<'a> Fields<'a> {
 
     // The next field as it stands.
     pub fn word(&mut self) -> Result<&'a [u8], Fault>
-        ensures { MatchResult result (λ w. left self.old.rest ≡ w.now ∷ left self.new.rest) (λ x. (x ≡ NoneLeft) × (left self.old.rest ≡ []) × (left self.new.rest ≡ [])) }
+        ensures { MatchResult result (λ w. self.old ≡ w.now ∷ self.new) (λ x. (x ≡ NoneLeft) × (self.old ≡ []) × (self.new ≡ [])) }
     {
-        let Some(rest) = self.rest else {
-            return Err(Fault::Missing);
-        };
-        let (field, behind) = split_field(rest);
-        self.rest = behind;
-        Ok(field)
+        self.next().ok_or(Fault::Missing)
     }
 
     // The next field as a decimal number.
     pub fn number(&mut self) -> Result<u32, Fault>
-        ensures { Takes Writes Blamed (left self.old.rest) (left self.new.rest) result }
+        ensures { Takes Writes Blamed self.old self.new result }
     {
         read_number(self.word()?)
     }
 
     // The next field as bytes in hexadecimal.
     pub fn bytes(&mut self, heap: Global) -> Result<Vec<u8>, Fault>
-        ensures { Takes (λ v field. spelled v.items ≡ field) Faulty (left self.old.rest) (left self.new.rest) result }
+        ensures { Takes (λ v field. spelled v.items ≡ field) Faulty self.old self.new result }
     {
         read_bytes(heap, self.word()?)
     }
 
     // Nothing is left.
     pub fn end(&self) -> Result<(), Fault>
-        ensures { MatchResult result (λ _. left self.now.rest ≡ []) (λ x. (x ≡ SomeLeft) × (0 < length (left self.now.rest))) }
+        ensures { MatchResult result (λ _. self.now ≡ []) (λ x. (x ≡ SomeLeft) × (0 < length self.now)) }
     {
         match self.rest {
             Some(_) => Err(Fault::Extra),

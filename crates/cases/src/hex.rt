@@ -1,5 +1,6 @@
 // Bytes in lower-case hexadecimal.
-ghost use Rattle.std.specs.Prelude.{◌≡◌, ◌%◌, length, MatchResult};
+ghost use Rattle.std.specs.Prelude.{◌≡◌, MatchResult};
+ghost use Rattle.std.specs.List.{concat};
 ghost use Rattle.cases.specs.Hex.{digit_of, byte_of, written, spelled, Faulty};
 
 use crate::fault::Fault;
@@ -20,25 +21,16 @@ fn hex_digit(b: u8) -> Option<u8>
 fn hex_byte(high: u8, low: u8) -> Option<u8>
     ensures { result ≡ byte_of (digit_of high) (digit_of low) }
 {
-    match (hex_digit(high), hex_digit(low)) {
-        (Some(h), Some(l)) => Some(h * 16 + l),
-        _ => None,
-    }
+    Some(hex_digit(high)? * 16 + hex_digit(low)?)
 }
 
-// The bytes of so many pairs of digits.
-fn read_pairs(heap: Global, field: &[u8]) -> Result<Vec<u8>, Fault>
-    requires { length field.now % 2 ≡ 0 }
-    ensures { MatchResult result (λ v. written v.items ≡ field.now) (λ x. Faulty x field.now) }
+// The bytes of the pairs of digits.
+fn read_pairs(heap: Global, pairs: &[[u8; 2]]) -> Result<Vec<u8>, Fault>
+    ensures { MatchResult result (λ v. written v.items ≡ concat pairs.now) (λ x. Faulty x (concat pairs.now)) }
 {
     let mut bytes = Vec::new(heap);
-    let mut at = 0;
-    while at < field.len() {
-        match hex_byte(field[at], field[at + 1]) {
-            Some(b) => bytes.push(b)?,
-            None => return Err(Fault::NoHexadecimal),
-        }
-        at += 2;
+    for [high, low] in pairs {
+        bytes.push(hex_byte(*high, *low).ok_or(Fault::NoHexadecimal)?)?;
     }
     Ok(bytes)
 }
@@ -50,11 +42,12 @@ pub(crate) fn read_bytes(heap: Global, field: &[u8]) -> Result<Vec<u8>, Fault>
     if field.is_empty() {
         return Err(Fault::NoBytes);
     }
-    if field.len() == 1 && field[0] == b'-' {
+    if field == b"-".as_slice() {
         return Ok(Vec::new(heap));
     }
-    if field.len() % 2 == 1 {
+    let (pairs, odd) = field.as_chunks::<2>();
+    if !odd.is_empty() {
         return Err(Fault::OddDigits);
     }
-    read_pairs(heap, field)
+    read_pairs(heap, pairs)
 }

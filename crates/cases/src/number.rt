@@ -8,15 +8,13 @@ use crate::fault::Fault;
 fn grown(value: u32, digit: u8) -> Result<u32, Fault>
     ensures { result ≡ grown_to value digit }
 {
-    if digit < b'0' || b'9' < digit {
+    if !digit.is_ascii_digit() {
         return Err(Fault::NoDigit);
     }
-    let next = u64::from(value) * 10 + u64::from(digit - b'0');
-    if next <= 4_294_967_295 {
-        Ok(next as u32)
-    } else {
-        Err(Fault::TooLarge)
-    }
+    value
+        .checked_mul(10)
+        .and_then(|tens| tens.checked_add(u32::from(digit - b'0')))
+        .ok_or(Fault::TooLarge)
 }
 
 // The number that the field writes in decimal digits, one or more. The first digit at fault is blamed.
@@ -27,9 +25,7 @@ pub(crate) fn read_number(field: &[u8]) -> Result<u32, Fault>
     if field.is_empty() {
         return Err(Fault::NoDigits);
     }
-    let mut value = 0;
-    for digit in field {
-        value = grown(value, *digit)?;
-    }
-    Ok(value)
+    field
+        .iter()
+        .try_fold(0, |value, digit| grown(value, *digit))
 }

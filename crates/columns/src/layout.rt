@@ -9,31 +9,19 @@ use std::alloc::{AllocError, Global};
 pub fn shown(heap: Global, text: &str) -> Result<String, AllocError>
     ensures { IfOk result (λ s. string_bytes s ≡ shown_as text.now) }
 {
-    let mut line = String::new(heap);
-    for c in text.chars() {
-        line.push(picture(c))?;
-    }
-    Ok(line)
+    text.chars().map(picture).collect(heap)
 }
 
 // Spaces as wide as the text.
 pub fn padding(heap: Global, text: &str) -> Result<String, AllocError>
     ensures { IfOk result (λ s. string_bytes s ≡ spaces_of text.now) }
 {
-    let mut gap = String::new(heap);
-    for c in text.chars() {
-        gap.push_str(spaces(c))?;
-    }
-    Ok(gap)
+    text.chars().map(spaces).collect(heap)
 }
 
 // The text before the byte, or before the character that the byte is part of.
 pub fn before(text: &str, place: usize) -> &str
     ensures { Front text.now place result.now }
 {
-    let mut cut = place.min(text.len());
-    while !text.is_char_boundary(cut) {
-        cut -= 1;
-    }
-    text.split_at(cut).0
+    &text[..text.floor_char_boundary(place)]
 }

@@ -1,34 +1,20 @@
 // What is wrong with a record, in words.
 use cases::fault::Fault;
-use std::fmt;
+use thiserror::Error;
 
-#[derive(Clone, Copy)]
+#[derive(Clone, Copy, Debug, PartialEq, Eq, Error)]
 pub enum Mistake {
-    Field(Fault),
+    #[error(transparent)]
+    Field(#[from] Fault),
+    #[error("there is no such record")]
     Record,
+    #[error("there is no such call")]
     Call,
+    #[error("there is no such matcher")]
     Matcher,
     // a search before any matcher was named
+    #[error("no matcher was named before the search")]
     NoMatcher,
-    // a place past the bytes
+    #[error("the place lies past the bytes")]
     Past,
-}
-
-impl fmt::Display for Mistake {
-    fn fmt<W: fmt::Write>(&self, f: &mut fmt::Formatter<W>) -> fmt::Result {
-        match self {
-            Mistake::Field(fault) => write!(f, "{fault}"),
-            Mistake::Record => f.write_str("there is no such record"),
-            Mistake::Call => f.write_str("there is no such call"),
-            Mistake::Matcher => f.write_str("there is no such matcher"),
-            Mistake::NoMatcher => f.write_str("no matcher was named before the search"),
-            Mistake::Past => f.write_str("the place lies past the bytes"),
-        }
-    }
-}
-
-impl From<Fault> for Mistake {
-    fn from(fault: Fault) -> Mistake {
-        Mistake::Field(fault)
-    }
 }

@@ -3,10 +3,23 @@ use crate::mistake::Mistake;
 use cases::fields::Fields;
 use std::alloc::Global;
 
-#[derive(Clone, Copy)]
+// A matcher, by its name.
+#[derive(Clone, Copy, Debug, PartialEq, Eq)]
 pub enum Named {
     Word,
     Expression,
+}
+
+impl<'a> TryFrom<&'a [u8]> for Named {
+    type Error = Mistake;
+
+    fn try_from(name: &'a [u8]) -> Result<Named, Mistake> {
+        match name {
+            b"word" => Ok(Named::Word),
+            b"expression" => Ok(Named::Expression),
+            _ => Err(Mistake::Matcher),
+        }
+    }
 }
 
 #[derive(Drop)]
@@ -29,24 +42,18 @@ pub enum Record<'a> {
 }
 
 // The records of a set, and the calls that are known but not answered here.
-const SET_RECORDS: [&str; 9] = [
-    "syntax", "name", "context", "pattern", "ref", "entry", "scopes", "bytes", "repeat",
+const SET_RECORDS: [&[u8]; 9] = [
+    b"syntax", b"name", b"context", b"pattern", b"ref", b"entry", b"scopes", b"bytes", b"repeat",
 ];
 
-const CALLS: [&str; 6] = ["start", "restart", "line", "mark", "match_at", "apply"];
-
-fn is(name: &[u8], word: &str) -> bool {
-    name == word.as_bytes()
-}
-
-fn is_among(name: &[u8], words: &[&str]) -> bool {
-    for word in words {
-        if is(name, word) {
-            return true;
-        }
-    }
-    false
-}
+const CALLS: [&[u8]; 6] = [
+    b"start",
+    b"restart",
+    b"line",
+    b"mark",
+    b"match_at",
+    b"apply",
+];
 
 fn read_case<'a>(mut fields: Fields<'_>) -> Result<Record<'a>, Mistake> {
     let number = fields.number()?;
@@ -62,13 +69,7 @@ fn read_end<'a>(fields: Fields<'_>) -> Result<Record<'a>, Mistake> {
 fn read_matcher<'a>(mut fields: Fields<'_>) -> Result<Record<'a>, Mistake> {
     let name = fields.word()?;
     fields.end()?;
-    if is(name, "word") {
-        return Ok(Record::Matcher(Named::Word));
-    }
-    if is(name, "expression") {
-        return Ok(Record::Matcher(Named::Expression));
-    }
-    Err(Mistake::Matcher)
+    Ok(Record::Matcher(Named::try_from(name)?))
 }
 
 fn read_search<'a>(heap: Global, mut fields: Fields<'_>) -> Result<Record<'a>, Mistake> {
@@ -91,36 +92,22 @@ fn read_next_line<'a>(heap: Global, mut fields: Fields<'_>) -> Result<Record<'a>
 }
 
 fn read_call<'a>(heap: Global, mut fields: Fields<'a>) -> Result<Record<'a>, Mistake> {
-    let name = fields.word()?;
-    if is(name, "next_line") {
-        return read_next_line(heap, fields);
+    match fields.word()? {
+        b"next_line" => read_next_line(heap, fields),
+        name if CALLS.contains(&name) => Ok(Record::Call(name)),
+        _ => Err(Mistake::Call),
     }
-    if is_among(name, &CALLS) {
-        return Ok(Record::Call(name));
-    }
-    Err(Mistake::Call)
 }
 
 pub(crate) fn read_record<'a>(heap: Global, line: &'a [u8]) -> Result<Record<'a>, Mistake> {
     let mut fields = Fields::new(line);
-    let name = fields.word()?;
-    if is(name, "case") {
-        return read_case(fields);
+    match fields.word()? {
+        b"case" => read_case(fields),
+        b"end" => read_end(fields),
+        b"matcher" => read_matcher(fields),
+        b"search" => read_search(heap, fields),
+        b"call" => read_call(heap, fields),
+        name if SET_RECORDS.contains(&name) => Ok(Record::Set(name)),
+        _ => Err(Mistake::Record),
     }
-    if is(name, "end") {
-        return read_end(fields);
-    }
-    if is(name, "matcher") {
-        return read_matcher(fields);
-    }
-    if is(name, "search") {
-        return read_search(heap, fields);
-    }
-    if is(name, "call") {
-        return read_call(heap, fields);
-    }
-    if is_among(name, &SET_RECORDS) {
-        return Ok(Record::Set(name));
-    }
-    Err(Mistake::Record)
 }

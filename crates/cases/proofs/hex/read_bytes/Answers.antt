@@ -1,24 +1,23 @@
-use Rattle.std.proofs.Common.{length, sym, ap, ◌∙◌}
-use Rattle.std.proofs.lemmas.Bool.{eqb-true}
-use Rattle.cases.specs.Hex.{spelled}
-use Rattle.cases.proofs.Pairs.{hyphen, not_hyphen, not_one, illegible_empty, illegible_odd}
+use Rattle.std.proofs.Common.{◌≡◌, ◌/◌, ◌%◌, length, sym, ◌∙◌, subst, arith}
+use Rattle.std.specs.Cmp.Lexicographic.{other_text}
+use Rattle.std.specs.List.{concat}
+use Rattle.std.proofs.lemmas.Bool.{eqb-true, eqb-false}
+use Rattle.std.proofs.lemmas.Result.{MatchResult-weaker}
+use Rattle.cases.specs.Hex.{Faulty}
+use Rattle.cases.proofs.Pairs.{illegible_odd, pairs_join, spelled_filled}
 use Rattle.cases.proofs.hex.read_bytes.Goals as goal
-use Rattle.cases.proofs.hex.read_bytes.Goals.{else-field-eq1-via-then-field-eq1+else-field-eq45, else-field-eq1-via-else-field-eq1}
 
-pub returns-then-is_empty : goal.returns-then-is_empty
-returns-then-is_empty c =
-    let none = eqb-true (length c.args.field.now) 0 (sym c.if-is_empty.ensures) in
-    (none, illegible_empty c.args.field.now none)
+pub returns-then-not-is_empty : goal.returns-then-not-is_empty
+returns-then-not-is_empty c =
+    let some = eqb-false (length c.as_chunks.result.1.now) 0 (sym c.if-not-is_empty.ensures) in
+    let left = c.as_chunks.ensures.back_len in
+    let odd : length c.args.field.now % 2 ≡ 1 = omega arith in
+    (odd, illegible_odd c.args.field.now odd (rw (← c.as_slice.ensures) (other_text _ _ c.if-eq.ensures)))
 
-pub returns-then-field-eq45 : goal.returns-then-field-eq45
-returns-then-field-eq45 c = ap spelled c.new.ensures.items ∙ sym (hyphen c.args.field.now c.if-field-eq1.true c.if-field-eq45.true)
-
-pub returns-then-field-eq1-2 : goal.returns-then-field-eq1-2
-returns-then-field-eq1-2 c = (
-  c.if-field-eq1-2.true,
-  illegible_odd c.args.field.now c.if-field-eq1-2.true
-      (elim c.else-field-eq1.branch [
-        | else-field-eq1-via-then-field-eq1+else-field-eq45 w ↦ not_hyphen c.args.field.now w.if-field-eq45.false
-        | else-field-eq1-via-else-field-eq1 w ↦ not_one c.args.field.now w.if-field-eq1.false
-      ]),
-)
+pub returns : goal.returns
+returns c =
+    let field = c.args.field.now in
+    let filled = eqb-false (length field) 0 (sym c.if-is_empty.ensures) in
+    let none = eqb-true (length c.as_chunks.result.1.now) 0 (sym c.if-not-is_empty.ensures) in
+    let all : concat c.as_chunks.result.0.now ≡ field = pairs_join (length field / 2) field _ _ c.as_chunks.ensures.front c.as_chunks.ensures.back none in
+    MatchResult-weaker c.read_pairs.result c.read_pairs.ensures (λ v is. spelled_filled field v.items (omega arith) (is ∙ all)) (λ x faulty. subst (Faulty x) all faulty)

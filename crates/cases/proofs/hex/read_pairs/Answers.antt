@@ -1,16 +1,19 @@
-use Rattle.std.proofs.Common.{◌≡◌, ℕ, ◌+◌, List, [], ◌∷◌, ◌++◌, vec_items, sym, ◌∙◌, subst}
-use Rattle.cases.proofs.Pairs.{Reading, reading_more, reading_all, no_pair}
+use Rattle.std.proofs.Common.{sym, ap, ◌∙◌, vec_items}
+use Rattle.std.specs.Result.{result_ok}
+use Rattle.std.proofs.lemmas.Result.{err_from_is_err_and}
+use Rattle.cases.proofs.Pairs.{pair_more, refused_pair}
 use Rattle.cases.proofs.hex.read_pairs.Goals as goal
 
-pub returns-in-None : goal.returns-in-None
-returns-in-None c =
-    no_pair c.args.field.now (vec_items c.loop-at.bytes) c.loop-at.at c.requires c.loop-at-test.true (sym c.hex_byte.ensures ∙ c.in-None.is) c.loop-at.invariant
+pub returns-in_err-ok_or : goal.returns-in_err-ok_or
+returns-in_err-ok_or c =
+    let refused = err_from_is_err_and c.from_residual.result c.from_residual.ensures.1 in
+    rw (refused.1, refused.2)
+    (refused_pair c.args.pairs.now (vec_items c.loop-high.bytes) c.loop-high.high-index c.hex_byte.result _ c.loop-high-test.true c.told-pairs
+    c.hex_byte.ensures (sym c.ok_or.ensures.value ∙ c.in_err-ok_or.was) c.loop-high.invariant)
 
-pub loop-at-preserved : goal.loop-at-preserved
-loop-at-preserved c =
-    let pushed : vec_items c.loop-at.bytes ++ c.in-Some.b ∷ [] ≡ vec_items c.push.new.self = sym c.in_ok-push-in-Some.ensures.items in
-    subst (λ (bytes : List ℕ). Reading c.args.field.now bytes (c.loop-at.at + 2)) pushed
-    (reading_more c.args.field.now (vec_items c.loop-at.bytes) c.loop-at.at c.in-Some.b c.requires c.loop-at-test.true (sym c.hex_byte.ensures ∙ c.in-Some.is) c.loop-at.invariant)
-
-pub returns : goal.returns
-returns c = reading_all c.args.field.now (vec_items c.loop-at.bytes) c.loop-at.at c.loop-at-test.false c.loop-at.invariant
+pub loop-high-preserved : goal.loop-high-preserved
+loop-high-preserved c =
+    let i = c.loop-high.high-index in
+    rw c.in_ok-push.ensures.items
+    (pair_more c.args.pairs.now (vec_items c.loop-high.bytes) i c.in_ok-ok_or.field-0 c.loop-high-test.true (c.told-pairs i c.loop-high-test.true)
+    (sym c.hex_byte.ensures ∙ c.ok_or.ensures.ok_part ∙ ap result_ok c.in_ok-ok_or.was) c.loop-high.invariant)

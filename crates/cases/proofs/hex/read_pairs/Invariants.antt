@@ -1,9 +1,8 @@
-use Rattle.std.proofs.Common.{◌-◌, length, vec_items}
-use Rattle.cases.proofs.Pairs.{Reading}
+use Rattle.std.proofs.Common.{◌≡◌, ◌++◌, drop, vec_items}
+use Rattle.std.specs.List.{concat}
+use Rattle.cases.specs.Hex.{written}
 use Rattle.cases.proofs.hex.read_pairs.Given as goal
 
-abbrev pub invariant-loop-at : goal.invariant-loop-at
-invariant-loop-at l = Reading l.field (vec_items l.bytes) l.at
-
-abbrev pub decreases-loop-at : goal.decreases-loop-at
-decreases-loop-at l = length l.field - l.at
+-- what was read writes the pairs before those that are left
+abbrev pub invariant-loop-high : goal.invariant-loop-high
+invariant-loop-high l = written (vec_items l.bytes) ++ concat (drop l.high-index l.pairs) ≡ concat l.pairs
