@@ -1,7 +1,6 @@
 -- The groups of a match lie in the line, at edges. Assumes nothing.
-use Rattle.std.proofs.Common.{◌≡◌, ℕ, zero, suc, ◌+◌, ◌≤◌, Bool, true, false, cond, ◌⊎◌, List, [], ◌∷◌, get_or, set, Some, None, IsUtf8, Option, sym, refl, ap, ◌∙◌, subst, inl, inr, ⊎_elim, arith}
-use Rattle.std.specs.Char.{len_utf8}
-use Rattle.std.specs.Str.{IsCharBoundary, chars}
+use Rattle.std.proofs.Common.{◌≡◌, ℕ, zero, suc, ◌≤◌, ◌⊎◌, List, [], ◌∷◌, get_or, set, Some, None, IsUtf8, Option, sym, refl, subst, inl, inr, ⊎_elim, arith}
+use Rattle.std.specs.Str.{IsCharBoundary}
 use Rattle.std.proofs.lemmas.Str.{IsCharBoundary-start}
 use Rattle.matcher.specs.declared.answer.Span.{Span}
 use Rattle.matcher.specs.declared.answer.Region.{Region}
@@ -12,34 +11,22 @@ use Rattle.scan.proofs.Earliest.{earliest_lawful}
 use Rattle.grammar.specs.Grammar.{Piece, Item, takes, start, end, never, opens, closes, bar}
 use Rattle.grammar.specs.Reader.{refusal}
 use Rattle.grammar.specs.Parse.{items}
-use Rattle.ways.specs.Match.{Way, accepts, past, step, run}
+use Rattle.ways.specs.Match.{Way, step, run}
 use Rattle.ways.specs.Ways.{Row, Leads, Fits, Best}
 use Rattle.ways.specs.Groups.{Laying, blank, put, begin_of, closing_on, lay, laid}
 use Rattle.ways.specs.Meaning.{alternatives, end_of, region_of, at, meaning}
-use Rattle.ways.proofs.Prefers.{step_within, preferred}
-use Rattle.ways.proofs.Chars.{char_at}
+use Rattle.ways.proofs.Prefers.{step_on, preferred}
+use Rattle.ways.proofs.Edges.{step_edge}
 use Rattle.preference.proofs.Chosen.{chosen}
 use Rattle.preference.proofs.Bracketing.{nones, whole_group}
 
 -- ===== a way goes on from edge to edge
 module _ (l : List ℕ) (u : IsUtf8 l) where
-  past_edge : (x : Piece) (p q c : ℕ) (cs : List ℕ) → IsCharBoundary l (p + len_utf8 c) → past x p (c ∷ cs) ≡ Some q → (p ≤ q) × IsCharBoundary l q
-  past_edge x p q c cs b h = here (accepts x c) h
-    where
-      here : (t : Bool) → cond t (Some (p + len_utf8 c)) None ≡ Some q → (p ≤ q) × IsCharBoundary l q
-      here true e = let s : p + len_utf8 c ≡ q = cc in (omega arith, subst (IsCharBoundary l) s b)
-      here false e = let z : ◌≡◌ {A = ℕ} 0 1 = cc in absurd (omega arith)
-
-  step_edge : (x : Piece) (p q : ℕ) → IsCharBoundary l p → step l x p ≡ Some q → (p ≤ q) × IsCharBoundary l q
-  step_edge x p q b h =
-      let c = char_at l p u b (step_within l x p q h) in
-      past_edge x p q c.code (chars c.rest) c.edge (ap (past x p) (sym c.decoded) ∙ h)
-
   row_edge : (x : Piece) (n p q : ℕ) → IsCharBoundary l p → Row (step l x) n p q → (p ≤ q) × IsCharBoundary l q
   row_edge x zero p q b r = (omega arith, subst (IsCharBoundary l) r b)
   row_edge x (suc n) p q b r =
-      let a = step_edge x p r.0 b r.1 in
-      let k = row_edge x n r.0 q a.1 r.2 in (omega arith, k.1)
+      let a = step_on l x p r.0 r.1 in
+      let k = row_edge x n r.0 q (step_edge l p u b x r.0 r.1) r.2 in (omega arith, k.1)
 
   leads_edge : (x : Item) (p q : ℕ) → IsCharBoundary l p → Leads l x p q → (p ≤ q) × IsCharBoundary l q
   leads_edge (takes x t) p q b h = row_edge x h.0 p q b h.2

@@ -1,3 +1,4 @@
 pub mod Prefers
+pub mod Edges
 pub mod Reading
 pub mod Starts
