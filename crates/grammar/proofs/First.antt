@@ -31,7 +31,8 @@ use Rattle.grammar.proofs.Parsed.{timed_read, part_read}
 
 -- whatever item is written there, it was read
 abbrev Takes : List ℕ → Item × Items → Type 0
-Takes bytes r = (o d : ℕ) (y : g.Item) (is : List g.Item) → Good o d (y ∷ is) → item y (written is) ≡ bytes → Read r (y, written is)
+Takes bytes r =
+    (o d : ℕ) (y : g.Item) (is : List g.Item) → Good o d (y ∷ is) → item y (written is) ≡ bytes → Read r (y, written is)
 
 -- whatever the piece, this repeat stands behind it, and left follows
 abbrev Timed : List ℕ → g.Times → List ℕ → Type 0
@@ -39,7 +40,9 @@ Timed bytes u left = (p : g.Piece) → timed p bytes ≡ (takes p u, left)
 
 -- ===== characters that are bytes
 pub bare_low : (c : ℕ) → bare c ≡ true → c < 128
-bare_low c h = ⊎_elim (λ l. l) (λ l. let no : bare c ≡ false = grind (arith, nat_tests) in absurd (true≢false (sym h ∙ no))) (cases_lt c 128)
+bare_low c h =
+    let wide : 128 ≤ c → bare c ≡ false = λ high. grind (arith, nat_tests) in
+    ⊎_elim (λ low. low) (λ high. absurd (true≢false (sym h ∙ wide high))) (cases_lt c 128)
 
 pub letter_low : (s : Set) → letter s < 128
 letter_low Digits = omega arith
@@ -95,13 +98,16 @@ none_read [] h p = refl
 none_read (b ∷ bs) h p = absurd (omega arith)
 
 module _ (x : Piece) (bytes left : List ℕ) (u : g.Times) (r : Times × Bor (List ℕ)) (rest : Bor (List ℕ)) where
-  pub repeats : Timed bytes u left → r ≡ (times_of u, rest) → rest.now ≡ left → Repeats x bytes (i.Take x r.0, record { rest = r.1 })
-  repeats h e f p is =
-      subst (Read (i.Take x r.0, record { rest = r.1 })) (sym (h p)) ((x, ap (i.Take x) (ap (λ q. q.0) e), is), ap (λ q. q.1.now) e ∙ f)
+  abbrev took : Item × Items
+  took = (i.Take x r.0, record { rest = r.1 })
+
+  pub repeats : Timed bytes u left → r ≡ (times_of u, rest) → rest.now ≡ left → Repeats x bytes took
+  repeats h e f p is = subst (Read took) (sym (h p)) ((x, ap (λ q. i.Take x q.0) e, is), ap (λ q. q.1.now) e ∙ f)
 
 -- a piece that is read, with the repeat behind it
 module _ (z : Piece) (left : List ℕ) (r : Item × Items) (again : Repeats z left r) (y : g.Piece) (a : IsPiece z y) where
-  piece_read : (o d : ℕ) (u : g.Times) (is : List g.Item) → Good o d is → times u (written is) ≡ left → Read r (takes y u, written is)
+  piece_read : (o d : ℕ) (u : g.Times) (is : List g.Item) → Good o d is → times u (written is) ≡ left
+      → Read r (takes y u, written is)
   piece_read o d u is h e = subst (Read r) (ap (timed y) (sym e) ∙ timed_read o d y u is h) (again y a)
 
 -- ===== the first item
@@ -137,7 +143,9 @@ module _ (m : ℕ) (low : m < 128) (not_bare : bare m ≡ false) where
       eqb-false (get_or (encode c ++ bs) 0 0) m high (heads (encode c ++ bs) (m ∷ cs) e)
 
 -- ===== behind a bracket
-module _ (left : List ℕ) (k : Class) (after : List ℕ) (r : Item × Items) (held : Opens left k.negated k.members.now after) (again : Repeats (p.Class k) after r) where
+module _
+    (left : List ℕ) (k : Class) (after : List ℕ) (r : Item × Items)
+    (held : Opens left k.negated k.members.now after) (again : Repeats (p.Class k) after r) where
   class_takes : Takes (91 ∷ left) r
   class_takes o d (takes (char c) u) is h e = absurd (no_char 91 (omega arith) refl c _ left h.0 e)
   class_takes o d (takes (wide c) u) is h e = absurd (no_wide 91 (omega arith) refl c _ left h.0.0 h.0.1 e)
@@ -172,11 +180,12 @@ module _ (left : List ℕ) (c : ℕ) (r : Item × Items) (again : Repeats (p.Cha
 
   char_read : (y : g.Piece) (x : ℕ) → IsPiece (p.Char x) y → (o d : ℕ) (u : g.Times) (is : List g.Item) → Good o d is
       → (x ≡ c) × (times u (written is) ≡ left) → Read r (takes y u, written is)
-  char_read y x a o d u is h e = piece_read (p.Char c) left r again y (subst (λ (z : ℕ). IsPiece (p.Char z) y) e.0 a) o d u is h e.1
+  char_read y x a o d u is h e =
+      piece_read (p.Char c) left r again y (subst (λ (z : ℕ). IsPiece (p.Char z) y) e.0 a) o d u is h e.1
 
   other_takes : Other c → Takes (encode c ++ left) r
   other_takes n o d (takes (char x) u) is h e = char_read (char x) x refl o d u is h.1 (same_first x _ (bare_low x h.0) e)
-  other_takes n o d (takes (wide x) u) is h e = char_read (wide x) x refl o d u is h.1 (encode_same x c (times u (written is)) left e)
+  other_takes n o d (takes (wide x) u) is h e = char_read (wide x) x refl o d u is h.1 (encode_same x c _ left e)
   other_takes n o d (takes (marked x) u) is h e = absurd (no_first 92 _ (omega arith) e n.7)
   other_takes n o d (takes any u) is h e = absurd (no_first 46 _ (omega arith) e n.5)
   other_takes n o d (takes (set s) u) is h e = absurd (no_first 92 _ (omega arith) e n.7)
@@ -199,7 +208,8 @@ module _ (left : List ℕ) (c : ℕ) (r : Item × Items) (again : Repeats (p.Cha
   mark_takes : Mark c → Takes (92 ∷ encode c ++ left) r
   mark_takes n o d (takes (char x) u) is h e = absurd (no_char 92 (omega arith) refl x _ _ h.0 e)
   mark_takes n o d (takes (wide x) u) is h e = absurd (no_wide 92 (omega arith) refl x _ _ h.0.0 h.0.1 e)
-  mark_takes n o d (takes (marked x) u) is h e = char_read (marked x) x refl o d u is h.1 (same_first x _ (omega (arith, mark_low x h.0)) (tails _ _ e))
+  mark_takes n o d (takes (marked x) u) is h e =
+      char_read (marked x) x refl o d u is h.1 (same_first x _ (omega (arith, mark_low x h.0)) (tails _ _ e))
   mark_takes n o d (takes any u) is h e = absurd (omega (arith, heads _ _ e))
   mark_takes n o d (takes (set s) u) is h e = absurd (no_letter n s _ (tails _ _ e))
   mark_takes n o d (takes (class not m ms) u) is h e = absurd (omega (arith, heads _ _ e))
@@ -220,12 +230,15 @@ module _ (bytes left : List ℕ) (c : ℕ) (e : bytes ≡ encode c ++ left) wher
 
   pub set_reads : (s : Set) → c ≡ letter s → (r : Item × Items) → Repeats (p.Set s) left r → Reads (92 ∷ bytes) (Some r)
   set_reads s is r again =
-      escape_reads r (part_takes (92 ∷ bytes) r (timed (set s) left) (part_escaped (letter s) (letter_low s) is (q.Set s) (is_set s)) (again (set s) refl))
+      let part = part_escaped (letter s) (letter_low s) is (q.Set s) (is_set s) in
+      escape_reads r (part_takes (92 ∷ bytes) r (timed (set s) left) part (again (set s) refl))
 
-  pub digit_reads : digit c ≡ true → (rest : Bor (List ℕ)) → rest.now ≡ left → Reads (92 ∷ bytes) (Some (i.Never, record { rest = rest }))
+  pub digit_reads : digit c ≡ true → (rest : Bor (List ℕ)) → rest.now ≡ left
+      → Reads (92 ∷ bytes) (Some (i.Never, record { rest = rest }))
   digit_reads h rest f =
       let r : Item × Items = (i.Never, record { rest = rest }) in
-      escape_reads r (part_takes (92 ∷ bytes) r (never c, left) (part_escaped c (digit_low c h) refl q.Digit (is_digit c h)) (refl, f))
+      let part = part_escaped c (digit_low c h) refl q.Digit (is_digit c h) in
+      escape_reads r (part_takes (92 ∷ bytes) r (never c, left) part (refl, f))
 
   pub mark_reads : Mark c → (r : Item × Items) → Repeats (p.Char c) left r → Reads (92 ∷ bytes) (Some r)
   mark_reads n r again = escape_reads r (subst (λ l. Takes (92 ∷ l) r) (sym e) (mark_takes left c r again n))
@@ -244,22 +257,27 @@ lone_reads (b ∷ bs) h (y ∷ is) w = absurd (omega arith)
 -- ===== what is read at a character
 module _ (bytes left : List ℕ) (c : ℕ) (e : bytes ≡ encode c ++ left) where
   -- an item of one character
-  pub item_reads : (m : ℕ) → m < 128 → (y : g.Item) → part_at (m ∷ left) ≡ (y, left) → c ≡ m → (x : Item) → IsItem x y → (rest : Bor (List ℕ)) → rest.now ≡ left
-      → Reads bytes (Some (x, record { rest = rest }))
+  pub item_reads : (m : ℕ) → m < 128 → (y : g.Item) → part_at (m ∷ left) ≡ (y, left) → c ≡ m
+      → (x : Item) → IsItem x y → (rest : Bor (List ℕ)) → rest.now ≡ left → Reads bytes (Some (x, record { rest = rest }))
   item_reads m low y h is x a rest f =
       let r : Item × Items = (x, record { rest = rest }) in
-      takes_reads bytes r (not_empty bytes left c e) (part_takes bytes r (y, left) (ap part_at (ascii bytes left c e m low is) ∙ h) (a, f))
+      let part = ap part_at (ascii bytes left c e m low is) ∙ h in
+      takes_reads bytes r (not_empty bytes left c e) (part_takes bytes r (y, left) part (a, f))
 
   module _ (r : Item × Items) where
     char_reads : Takes bytes r → Reads bytes (Some r)
     char_reads h = takes_reads bytes r (not_empty bytes left c e) h
 
     pub any_reads : c ≡ 46 → Repeats p.Any left r → Reads bytes (Some r)
-    any_reads is again = char_reads (part_takes bytes r (timed any left) (ap part_at (ascii bytes left c e 46 (omega arith) is)) (again any refl))
+    any_reads is again =
+        let part = ap part_at (ascii bytes left c e 46 (omega arith) is) in
+        char_reads (part_takes bytes r (timed any left) part (again any refl))
 
-    pub class_reads : c ≡ 91 → (k : Class) (after : List ℕ) → Opens left k.negated k.members.now after → Repeats (p.Class k) after r → Reads bytes (Some r)
+    pub class_reads : c ≡ 91 → (k : Class) (after : List ℕ) → Opens left k.negated k.members.now after → Repeats (p.Class k) after r
+        → Reads bytes (Some r)
     class_reads is k after held again =
-        char_reads (subst (λ l. Takes l r) (sym (ascii bytes left c e 91 (omega arith) is)) (class_takes left k after r held again))
+        let from = ascii bytes left c e 91 (omega arith) is in
+        char_reads (subst (λ l. Takes l r) (sym from) (class_takes left k after r held again))
 
     pub other_reads : Other c → Repeats (p.Char c) left r → Reads bytes (Some r)
     other_reads n again = char_reads (subst (λ l. Takes l r) (sym e) (other_takes left c r again n))

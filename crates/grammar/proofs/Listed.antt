@@ -121,15 +121,18 @@ module _ (c : ℕ) where
 -- ===== the class that is held is the one that is written
 -- what stands behind `[`: whether it is a caret, and where the members begin
 abbrev pub Seen : List ℕ → Bool → List ℕ → Type 0
-Seen text negated members = (negated ≡ complemented text) × (members ≡ members_of text) × (shut_of false members ≡ shut_of false text)
+Seen text negated members =
+    (negated ≡ complemented text) × (members ≡ members_of text) × (shut_of false members ≡ shut_of false text)
 
 pub seen : (text members : List ℕ) → text ≡ encode 94 ++ members → Seen text true members
 seen text members h =
-    let e = h ∙ ap (λ l. l ++ members) (encode_ascii 94 (omega arith)) in (sym (ap complemented e), sym (ap members_of e), sym (ap (shut_of false) e))
+    let e = h ∙ ap (λ l. l ++ members) (encode_ascii 94 (omega arith)) in
+    (sym (ap complemented e), sym (ap members_of e), sym (ap (shut_of false) e))
 
 plain_head : (text : List ℕ) → ((rest : List ℕ) → text ≡ encode 94 ++ rest → ⊥) → complemented text ≡ false
 plain_head [] h = refl
-plain_head (b ∷ bs) h = ne_eqb b 94 (λ e. h bs (ap (λ (n : ℕ). n ∷ bs) e ∙ ap (λ l. l ++ bs) (sym (encode_ascii 94 (omega arith)))))
+plain_head (b ∷ bs) h =
+    let one = ap (λ l. l ++ bs) (sym (encode_ascii 94 (omega arith))) in ne_eqb b 94 (λ e. h bs (ap (λ (n : ℕ). n ∷ bs) e ∙ one))
 
 pub unseen : (text : List ℕ) → ((rest : List ℕ) → text ≡ encode 94 ++ rest → ⊥) → Seen text false text
 unseen text h = let e = plain_head text h in (sym e, sym (cond-false (complemented text) (drop 1 text) text e), refl)
@@ -142,7 +145,8 @@ members_from : (turn : Bool) (m : Member) (bs : List ℕ) → GoodMember m → m
 members_from true m bs h = refl
 members_from false m bs h = cond-false (complemented (member m bs)) (drop 1 (member m bs)) (member m bs) (head_no_caret m bs h)
 
-pub opens : (behind members : List ℕ) (negated : Bool) (after : List ℕ) → Seen behind negated members → after ≡ shut_of false members → Opens behind negated members after
+pub opens : (behind members : List ℕ) (negated : Bool) (after : List ℕ) → Seen behind negated members
+    → after ≡ shut_of false members → Opens behind negated members after
 opens behind members negated after s end turn m ms rest a b w =
     let cs = g.members ms (93 ∷ rest) in (
       record {

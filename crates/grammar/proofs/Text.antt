@@ -52,7 +52,8 @@ piece_text any bs h u = before 46 bs (omega arith) u
 piece_text (set s) bs h u = letter_text s bs u
 piece_text (class not m ms) bs h u =
     let cs = members ms (93 ∷ bs) in
-    before 91 (caret not (member m cs)) (omega arith) (caret_text not (member m cs) (member_text m cs h.0 (members_text ms (93 ∷ bs) h.1 (before 93 bs (omega arith) u))))
+    let inside = member_text m cs h.0 (members_text ms (93 ∷ bs) h.1 (before 93 bs (omega arith) u)) in
+    before 91 (caret not (member m cs)) (omega arith) (caret_text not (member m cs) inside)
 
 item_text : (o d : ℕ) (x : Item) (is : List Item) → Good o d (x ∷ is) → (bs : List ℕ) → IsUtf8 bs → IsUtf8 (item x bs)
 item_text o d (takes p t) is h bs u = piece_text p (times t bs) h.0 (times_text t bs u)

@@ -17,14 +17,16 @@ pub returns-then-is_ascii_digit-clause-reads : goal.returns-then-is_ascii_digit-
 returns-then-is_ascii_digit-clause-reads c =
     let left = c.next.new.self.rest.now in
     let from = sym c.chars-chars.ensures.rest ∙ c.in_ok-c.ensures.steps.0 in
-    digit_reads c.args.rest.now left c.in_ok-c.c from (sym c.if-is_ascii_digit.ensures.value) c.as_str-rest.result c.as_str-rest.ensures
+    let is = sym c.if-is_ascii_digit.ensures.value in
+    digit_reads c.args.rest.now left c.in_ok-c.c from is c.as_str-rest.result c.as_str-rest.ensures
 
 pub returns-clause-reads : goal.returns-clause-reads
 returns-clause-reads c =
     let bytes = c.args.rest.now in
     let left = c.as_str-rest.result.now in
     let char = c.in_ok-c.c in
-    let from = sym c.chars-chars.ensures.rest ∙ c.in_ok-c.ensures.steps.0 ∙ ap (λ l. encode char ++ l) (sym c.as_str-rest.ensures) in
+    let whole = sym c.chars-chars.ensures.rest ∙ c.in_ok-c.ensures.steps.0 in
+    let from = whole ∙ ap (λ l. encode char ++ l) (sym c.as_str-rest.ensures) in
     let same = same_reads (92 ∷ bytes) c.match-c.result in
     let set = set_reads bytes left char from in
     elim c.match-c.branch [
@@ -32,6 +34,7 @@ returns-clause-reads c =
       | in-w w ↦ same _ w.result-is (set Words w.in-w.is _ w.repeated-in-w.ensures.repeats)
       | in-s w ↦ same _ w.result-is (set Spaces w.in-s.is _ w.repeated-in-s.ensures.repeats)
       | in_default w ↦
-          let mark : Mark char = ((λ is. omega arith), (λ is. omega arith), (λ is. omega arith), (λ is. true≢false (sym is ∙ sym c.if-is_ascii_digit.ensures.value))) in
+          let no_digit = sym c.if-is_ascii_digit.ensures.value in
+          let mark : Mark char = ((λ is. omega arith), (λ is. omega arith), (λ is. omega arith), (λ is. true≢false (sym is ∙ no_digit))) in
           same _ w.result-is (mark_reads bytes left char from mark _ w.repeated-in_default.ensures.repeats)
     ]

@@ -13,11 +13,14 @@ returns-clause-repeats c =
     let is = repeats c.args.piece bytes in
     elim c.match-next.branch [
       | in-Some-eq63 w ↦
-          let a = w.in-Some-eq63 in is left maybe _ _ (maybe_read bytes left _ (from ∙ a.ensures.steps.0) a.field-0-test) w.times-is w.as_str.ensures
+          let a = w.in-Some-eq63 in
+          is left maybe _ _ (maybe_read bytes left _ (from ∙ a.ensures.steps.0) a.field-0-test) w.times-is w.as_str.ensures
       | in-Some-eq42 w ↦
-          let a = w.in-Some-eq42 in is left many _ _ (many_read bytes left _ (from ∙ a.ensures.steps.0) a.field-0-test) w.times-is w.as_str-in-Some-eq42.ensures
+          let a = w.in-Some-eq42 in
+          is left many _ _ (many_read bytes left _ (from ∙ a.ensures.steps.0) a.field-0-test) w.times-is w.as_str-in-Some-eq42.ensures
       | in-Some-eq43 w ↦
-          let a = w.in-Some-eq43 in is left some _ _ (some_read bytes left _ (from ∙ a.ensures.steps.0) a.field-0-test) w.times-is w.as_str-in-Some-eq43.ensures
+          let a = w.in-Some-eq43 in
+          is left some _ _ (some_read bytes left _ (from ∙ a.ensures.steps.0) a.field-0-test) w.times-is w.as_str-in-Some-eq43.ensures
       | in_default w ↦
           elim w.in_default.branch [
             | in_default-via-in-Some+in_default v ↦

@@ -13,7 +13,9 @@ returns-clause-opens c =
     let is : Seen text split.0 split.1.now = elim c.match-strip_prefix.branch [
       | in-Some w ↦
           let h = w.in-Some.ensures.cases in
-          subst (λ p. Seen text p.0 p.1.now) (sym w.negated-is) (seen text w.in-Some.members.now (h.1.split ∙ ap (λ l. encode 94 ++ l) (sym h.2)))
+          let from = h.1.split ∙ ap (λ l. encode 94 ++ l) (sym h.2) in
+          subst (λ p. Seen text p.0 p.1.now) (sym w.negated-is) (seen text w.in-Some.members.now from)
       | in-None w ↦ subst (λ p. Seen text p.0 p.1.now) (sym w.negated-is) (unseen text w.in-None.ensures.cases)
     ] in
-    subst (λ bytes. Opens text split.0 bytes after) (sym c.as_bytes.ensures.value) (opens text split.1.now split.0 after is c.after_class.ensures.shut)
+    let held = opens text split.1.now split.0 after is c.after_class.ensures.shut in
+    subst (λ bytes. Opens text split.0 bytes after) (sym c.as_bytes.ensures.value) held

@@ -19,7 +19,8 @@ returns-clause-reads c =
     let rest = c.as_str-rest.result in
     let left = rest.now in
     let first = c.in_ok-first.first in
-    let from = sym c.chars-chars.ensures.rest ∙ c.in_ok-first.ensures.steps.0 ∙ ap (λ l. encode first ++ l) (sym c.as_str-rest.ensures) in
+    let whole = sym c.chars-chars.ensures.rest ∙ c.in_ok-first.ensures.steps.0 in
+    let from = whole ∙ ap (λ l. encode first ++ l) (sym c.as_str-rest.ensures) in
     let same = same_reads bytes c.match-first.result in
     let item = item_reads bytes left first from in
     elim c.match-first.branch [
@@ -31,11 +32,21 @@ returns-clause-reads c =
       | in-46 w ↦ same _ w.result-is (any_reads bytes left first from _ w.in-46.is w.repeated.ensures.repeats)
       | in-91 w ↦
           let class = w.split.result in
-          same _ w.result-is (class_reads bytes left first from _ w.in-91.is class.0 class.1.now w.split.ensures.opens w.repeated-in-91.ensures.repeats)
+          let again = w.repeated-in-91.ensures.repeats in
+          same _ w.result-is (class_reads bytes left first from _ w.in-91.is class.0 class.1.now w.split.ensures.opens again)
       | in-92+in_ok-escaped-in-92 w ↦
           let a = w.in_ok-escaped-in-92 in
           same _ w.result-is (backslash_reads bytes left first from w.in-92.is (Some a.field-0) a.ensures.reads)
       | in_default w ↦
-          let other : Other first = ((λ is. omega arith), (λ is. omega arith), (λ is. omega arith), (λ is. omega arith), (λ is. omega arith), (λ is. omega arith), (λ is. omega arith), (λ is. omega arith)) in
+          let other : Other first = (
+            (λ is. omega arith),
+            (λ is. omega arith),
+            (λ is. omega arith),
+            (λ is. omega arith),
+            (λ is. omega arith),
+            (λ is. omega arith),
+            (λ is. omega arith),
+            (λ is. omega arith),
+          ) in
           same _ w.result-is (other_reads bytes left first from _ other w.repeated-in_default.ensures.repeats)
     ]
