@@ -3,7 +3,8 @@ use Rattle.std.specs.Prelude.{◌≡◌, ℕ, ◌≤◌, List, Some, None, Ok, E
 use Rattle.std.specs.Str.{IsCharBoundary}
 use Rattle.matcher.specs.declared.answer.Span.{Span}
 use Rattle.matcher.specs.declared.answer.Region.{Region}
-use Rattle.matcher.specs.Answers.{Answer, illegal}
+use Rattle.matcher.specs.declared.answer.Illegal.{Illegal}
+use Rattle.matcher.specs.Answers.{Answer}
 use Rattle.matcher.specs.Regions.{group}
 
 -- the answer for an expression, a line and a place
@@ -33,7 +34,7 @@ pub record Lawful (g : Meaning) : Type 0 where
   -- nothing found from an edge p means nothing from any later edge
   pub never : (e l : List ℕ) (p q : ℕ) → IsUtf8 l → IsCharBoundary l p → g e l p ≡ Ok None → p ≤ q → IsCharBoundary l q → g e l q ≡ Ok None
   -- a refusal and its place depend on the expression alone
-  pub refuses : (e l : List ℕ) (p k : ℕ) → g e l p ≡ Err (illegal k) → (m : List ℕ) (q : ℕ) → g e m q ≡ Err (illegal k)
+  pub refuses : (e l : List ℕ) (p : ℕ) (x : Illegal) → g e l p ≡ Err x → (m : List ℕ) (q : ℕ) → g e m q ≡ Err x
 
 -- the same answers everywhere
 abbrev pub Same : Meaning → Meaning → Type 0
