@@ -1,5 +1,5 @@
 -- For callers of `first_from`: what each attempt keeps, over all of them. Assumes nothing.
-use Rattle.std.proofs.Common.{◌≡◌, ℕ, Bool, true, List, [], ◌∷◌, Result, Option, MatchResult}
+use Rattle.std.proofs.Common.{◌≡◌, ℕ, Bool, true, false, List, [], ◌∷◌, Result, Ok, Option, MatchResult, sym, refl, subst}
 use Rattle.std.specs.Fn.{Mut, Called, Takes}
 use Rattle.std.specs.Str.{IsCharBoundary}
 use Rattle.matcher.specs.declared.answer.Region.{Region}
@@ -26,3 +26,17 @@ module _ {F E : Type 0} (g : Mut F (ℕ × Unit {0}) (Result (Option Region) E))
 
       pub finds_by : (f : F) → I f → FindsAs g l at fails f
       finds_by f i = record { each = finds_each f i }
+
+-- a closure that each call leaves as it was
+module _ {F E : Type 0} (g : Mut F (ℕ × Unit {0}) (Result (Option Region) E)) (l : List ℕ) (f : F) where
+  pub takes_same : ((p : ℕ) → IsCharBoundary l p → Takes g f (p, tt)) → ((p : ℕ) (r : Result (Option Region) E) (f' : F) → Called g f (p, tt) r f' → f' ≡ f) → TakesEdges g l f
+  takes_same takes keeps =
+      takes_by g l (λ s. s ≡ f) (λ s p i b. subst (λ (s : F). Takes g s (p, tt)) (sym i) (takes p b)) (λ s p i b r f' call. keeps p r f' (subst (λ (s : F). Called g s (p, tt) r f') i call)) f refl
+
+  -- and that never fails
+  pub finds_same : (at : ℕ → Option Region) → ((p : ℕ) (r : Result (Option Region) E) (f' : F) → Called g f (p, tt) r f' → (f' ≡ f) × (r ≡ Ok (at p))) → FindsAs g l at (λ _. false) f
+  finds_same at says =
+      finds_by g l (λ s. s ≡ f) at (λ _. false)
+      (λ s p i b r f' call.
+      let h = says p r f' (subst (λ (s : F). Called g s (p, tt) r f') i call) in
+      (subst (λ (v : Result (Option Region) E). MatchResult v (λ o. o ≡ at p) (λ e. false ≡ true)) (sym h.1) refl, h.0)) f refl

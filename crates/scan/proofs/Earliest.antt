@@ -1,16 +1,17 @@
 -- A matcher that takes the first edge at which its expression matches obeys the laws. Assumes nothing.
-use Rattle.std.proofs.Common.{◌≡◌, ℕ, zero, suc, ◌+◌, ◌-◌, ◌<◌, ◌≤◌, Bool, true, false, cond, ◌&&◌, List, length, Some, None, Ok, Err, IsUtf8, Option, sym, refl, ap, ◌∙◌, ⊎_elim, arith}
+use Rattle.std.proofs.Common.{◌≡◌, ℕ, zero, suc, ◌+◌, ◌-◌, ◌<◌, ◌≤◌, Bool, true, false, cond, ◌&&◌, List, length, Some, None, Ok, Err, IsUtf8, Option, MatchResult, sym, refl, ap, ◌∙◌, ⊎_elim, arith}
 use Rattle.std.specs.Str.{IsCharBoundary}
-use Rattle.std.proofs.lemmas.Bool.{and_parts, and_from, cond-true, cond-false, cases_Bool, cases_eq}
+use Rattle.std.proofs.lemmas.Bool.{and_parts, and_from, cond-true, cond-false, both_ways, cases_Bool, cases_eq}
 use Rattle.chars.specs.Edges.{text, edge}
 use Rattle.chars.proofs.Text.{text_tells, edge_tells}
 use Rattle.matcher.specs.declared.answer.Span.{Span}
 use Rattle.matcher.specs.declared.answer.Region.{Region}
 use Rattle.matcher.specs.declared.answer.Illegal.{Illegal}
-use Rattle.matcher.specs.Answers.{illegal}
+use Rattle.matcher.specs.Answers.{Answer, illegal, checked}
+use Rattle.matcher.specs.Refusals.{verdict}
 use Rattle.matcher.specs.Regions.{group, span}
 use Rattle.matcher.specs.Laws.{Lawful}
-use Rattle.scan.specs.Earliest.{or_else, seek, at_edges, earliest_from, answer, unless_refused, earliest, Placed}
+use Rattle.scan.specs.Earliest.{or_else, seek, at_edges, earliest_from, found_from, answer, unless_refused, earliest, Placed}
 
 -- where a search that found r stopped
 pub record Stop (f : ℕ → Option Region) (n p : ℕ) (r : Region) : Type 0 where
@@ -168,6 +169,29 @@ module _ (refusal : List ℕ → Option ℕ) (at : List ℕ → List ℕ → ℕ
 
   pub when_nothing : (e l : List ℕ) (p : ℕ) → earliest refusal at e l p ≡ Ok None → refusal e ≡ None
   when_nothing e l p h = legal_case e l p h (case e l p)
+
+  -- what an answer says of the expression alone
+  checked_case : (e l : List ℕ) (p : ℕ) → Case refusal e l p → checked (earliest refusal at e l p) ≡ verdict (refusal e)
+  checked_case e l p (refused k x) = ap checked (at_refused e l p k x) ∙ sym (ap verdict x)
+  checked_case e l p (outside x out) = ap checked (at_outside e l p x out) ∙ sym (ap verdict x)
+  checked_case e l p (inside x u b) = ap checked (at_inside e l p x u b) ∙ sym (ap verdict x)
+
+  pub checked_earliest : (e l : List ℕ) (p : ℕ) → checked (earliest refusal at e l p) ≡ verdict (refusal e)
+  checked_earliest e l p = checked_case e l p (case e l p)
+
+  unrefused : (o : Option ℕ) (u : Unit {0}) → Ok u ≡ verdict o → o ≡ None
+  unrefused None u h = refl
+  unrefused (Some k) u h = cc
+
+  -- what `first_from` finds in a text is the answer of a legal expression
+  found_answers_at : (e l : List ℕ) (p : ℕ) → refusal e ≡ None → IsUtf8 l → (b : Bool) → edge l p ≡ b → Ok (cond b (earliest_from l (at e l) p) None) ≡ earliest refusal at e l p
+  found_answers_at e l p fine u true on = sym (at_inside e l p fine u ((edge_tells l p).0 on))
+  found_answers_at e l p fine u false off = sym (at_outside e l p fine (λ both. both_ways (edge l p) off ((edge_tells l p).1 both.1)))
+
+  pub found_answers : (e l : List ℕ) (p : ℕ) (u : Unit {0}) (a : Answer) → Ok u ≡ checked (earliest refusal at e l p) → IsUtf8 l
+      → MatchResult a (λ o. o ≡ found_from l (at e l) p) (λ x. false ≡ true) → a ≡ earliest refusal at e l p
+  found_answers e l p u (Ok o) legal utf8 h = ap Ok h ∙ found_answers_at e l p (unrefused (refusal e) u (legal ∙ checked_earliest e l p)) utf8 (edge l p) refl
+  found_answers e l p u (Err x) legal utf8 h = cc
 
   pub nothing_at : (e l : List ℕ) (p : ℕ) → earliest refusal at e l p ≡ Ok None → IsUtf8 l → IsCharBoundary l p → (q : ℕ) → p ≤ q → IsCharBoundary l q → at e l q ≡ None
   nothing_at e l p h u b q low c =
