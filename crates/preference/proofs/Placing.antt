@@ -28,7 +28,7 @@ module _ (l : List ℕ) (u : IsUtf8 l) where
     where
       here : (t : Bool) → cond t (Some (p + len_utf8 c)) None ≡ Some q → (p ≤ q) × IsCharBoundary l q
       here true e = let s : p + len_utf8 c ≡ q = cc in (omega arith, subst (IsCharBoundary l) s b)
-      here false e = let z : ◌≡◌ {A = ℕ} 0 1 = cc in absurd (omega arith)
+      here false e = cc
 
   step_edge : (x : Piece) (p q : ℕ) → IsCharBoundary l p → step l x p ≡ Some q → (p ≤ q) × IsCharBoundary l q
   step_edge x p q b h =
@@ -108,7 +108,7 @@ module _ (l : List ℕ) (u : IsUtf8 l) where
       all_laid is q w (lay x q y) a.1 f.1 (lay_laid x q y a.1 (further p q y.region a.0 h))
 
   blank_laid : (p : ℕ) → Laid l p blank
-  blank_laid p = record { within = λ k s h. let n = nones 16 k in let z : ◌≡◌ {A = ℕ} 0 1 = cc in absurd (omega arith) }
+  blank_laid p = record { within = λ k s h. let n = nones 16 k in cc }
 
   pub region_placed : (n : ℕ) (a : List Item) (p : ℕ) (w : Way) → IsCharBoundary l p → Fits l a p w → Placed l p (region_of n a p w)
   region_placed n a p w b f =
