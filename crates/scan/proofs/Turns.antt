@@ -11,20 +11,24 @@ use Rattle.scan.specs.Earliest.{or_else, seek, at_edges, earliest_from, found_fr
 use Rattle.scan.proofs.Earliest.{stops}
 
 -- at a place within a line of n bytes
-seek_here : (f : ℕ → Option Region) (n p : ℕ) (r : Region) → p ≤ n → f p ≡ Some r → seek f (suc n - p) p ≡ Some r
+pub seek_here : (f : ℕ → Option Region) (n p : ℕ) (r : Region) → p ≤ n → f p ≡ Some r → seek f (suc n - p) p ≡ Some r
 seek_here f n p r le here = stops f (suc n - p) p p r (omega arith) (omega arith) here (λ j a b. absurd (omega arith))
 
-seek_on : (f : ℕ → Option Region) (n p : ℕ) → p ≤ n → f p ≡ None → seek f (suc n - p) p ≡ seek f (suc n - (p + 1)) (p + 1)
+pub seek_on : (f : ℕ → Option Region) (n p : ℕ) → p ≤ n → f p ≡ None → seek f (suc n - p) p ≡ seek f (suc n - (p + 1)) (p + 1)
 seek_on f n p le here =
     let a : suc n - p ≡ suc (n - p) = omega arith in
     let b : n - p ≡ suc n - (p + 1) = omega arith in
     let c : suc p ≡ p + 1 = omega arith in
     ap (λ k. seek f k p) a ∙ ap (λ o. or_else o (seek f (n - p) (suc p))) here ∙ ap (λ k. seek f k (suc p)) b ∙ ap (λ k. seek f (suc n - (p + 1)) k) c
 
-seek_end : (f : ℕ → Option Region) (n p : ℕ) → n ≤ p → seek f (suc n - (p + 1)) (p + 1) ≡ None
-seek_end f n p ge =
+-- past the line's end
+seek_past : (f : ℕ → Option Region) (n p : ℕ) → n ≤ p → seek f (suc n - (p + 1)) (p + 1) ≡ None
+seek_past f n p ge =
     let b : suc n - (p + 1) ≡ 0 = omega arith in
     ap (λ k. seek f k (p + 1)) b
+
+pub seek_end : (f : ℕ → Option Region) (n p : ℕ) → p ≤ n → n ≤ p → f p ≡ None → seek f (suc n - p) p ≡ None
+seek_end f n p le ge here = seek_on f n p le here ∙ seek_past f n p ge
 
 module _ {F E : Type 0} (g : Mut F (ℕ × Unit {0}) (Result (Option Region) E)) (l : List ℕ) where
   -- the attempts from `place` on led from `first` to f, and found nothing below `here`
@@ -79,4 +83,4 @@ module _ {F E : Type 0} (g : Mut F (ℕ × Unit {0}) (Result (Option Region) E))
 
   pub ends : (place p : ℕ) (first f : F) → edge l place ≡ true → Passed place first f (p + 1) → length l ≤ p → (at : ℕ → Option Region) (fails : E → Bool) → FindsAs g l at fails first → None ≡ found_from l at place
   ends place p first f from so ge at fails answers =
-      sym (cond-true (edge l place) (earliest_from l at place) None from ∙ (so.found at fails answers).1 ∙ seek_end (at_edges l at) (length l) p ge)
+      sym (cond-true (edge l place) (earliest_from l at place) None from ∙ (so.found at fails answers).1 ∙ seek_past (at_edges l at) (length l) p ge)
