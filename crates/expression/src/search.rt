@@ -1,17 +1,18 @@
 // The matcher: its meaning, its laws, and what a search says of the line.
 ghost use Rattle.std.specs.Prelude.{◌≡◌, ◌≤◌, length, None as Neither};
 ghost use Rattle.std.specs.Str.{IsCharBoundary};
-ghost use Rattle.scan.specs.Earliest.{earliest_from, answer as answer_of};
+ghost use Rattle.scan.specs.Earliest.{earliest_from};
 ghost use Rattle.grammar.specs.Reader.{refusal as refusal_of};
 ghost use Rattle.ways.specs.Meaning.{at as match_at, meaning};
 ghost use Rattle.preference.specs.Found.{Told};
 ghost use Rattle.expression.specs.Attempts.{Remembers};
 ghost use Rattle.preference.proofs.Placing.{expression_lawful};
+ghost use Rattle.preference.proofs.Telling.{told_meaning};
 
 use crate::attempts::{Verdict, match_from};
 use chars::edges::is_edge;
-use grammar::legality::refusal;
-use matcher::answer::Answer;
+use grammar::legality;
+use matcher::answer::{Answer, Illegal, Region};
 use matcher::search::Matcher;
 use std::alloc::Global;
 use table::fill::Table;
@@ -60,11 +61,11 @@ fn find_surely(
     line: &str,
     place: usize,
     marks: &mut [usize],
-) -> Answer
+) -> Option<Region>
     requires legal { refusal_of expression.now ≡ Neither }
     requires edge { IsCharBoundary line.now place }
     requires room { 30 ≤ length marks.old }
-    ensures { result ≡ answer_of (earliest_from line.now (match_at expression.now line.now) place) }
+    ensures { result ≡ earliest_from line.now (match_at expression.now line.now) place }
 {
     let table = remember(heap, expression, line);
     let mut fuel = 0;
@@ -77,16 +78,16 @@ fn find_surely(
         &mut fuel,
         marks,
     ) {
-        Verdict::Found(region) => Answer::Found(region),
-        _ => Answer::Nothing,
+        Verdict::Found(region) => Some(region),
+        _ => None,
     }
 }
 
 // The first match from the place on.
-fn find(heap: Global, expression: &[u8], line: &str, place: usize) -> Answer
+fn find(heap: Global, expression: &[u8], line: &str, place: usize) -> Option<Region>
     requires legal { refusal_of expression.now ≡ Neither }
     requires edge { IsCharBoundary line.now place }
-    ensures { result ≡ answer_of (earliest_from line.now (match_at expression.now line.now) place) }
+    ensures { result ≡ earliest_from line.now (match_at expression.now line.now) place }
 {
     let mut marks = [0; 30];
     let mut fuel = quick(expression.len(), line.len());
@@ -100,54 +101,30 @@ fn find(heap: Global, expression: &[u8], line: &str, place: usize) -> Answer
         &mut fuel,
         &mut marks,
     ) {
-        Verdict::Found(region) => Answer::Found(region),
-        Verdict::Nothing => Answer::Nothing,
+        Verdict::Found(region) => Some(region),
+        Verdict::Nothing => None,
         Verdict::Exhausted => find_surely(heap, expression, line, place, &mut marks),
-    }
-}
-
-// What is found in a UTF-8 line.
-fn search_line(heap: Global, expression: &[u8], line: &str, place: usize) -> Answer
-    ensures { result ≡ meaning expression.now line.now place }
-{
-    if let Some(fault) = refusal(expression) {
-        return Answer::Refused(fault);
-    }
-    if !is_edge(line, place) {
-        return Answer::Nothing;
-    }
-    find(heap, expression, line, place)
-}
-
-// What is found in any line.
-fn search_bytes(heap: Global, expression: &[u8], line: &[u8], place: usize) -> Answer
-    ensures { result ≡ meaning expression.now line.now place }
-{
-    if let Ok(text) = std::str::from_utf8(line) {
-        return search_line(heap, expression, text, place);
-    }
-    match refusal(expression) {
-        Some(fault) => Answer::Refused(fault),
-        None => Answer::Nothing,
     }
 }
 
 impl Matcher for ExpressionMatcher {
     ghost means = { λ _. meaning };
 
+    ghost tells = { λ _. Told };
+
     ghost lawful = { λ m. expression_lawful };
 
-    fn search(&self, expression: &[u8], line: &[u8], place: usize) -> Answer
-        ensures means { result ≡ meaning expression.now line.now place }
-        ensures told { Told expression.now line.now place result }
-    {
-        search_bytes(self.heap, expression, line, place)
+    ghost told = { λ m e l p. told_meaning e l p };
+
+    fn check(&self, expression: &[u8]) -> Result<(), Illegal> {
+        legality::check(expression)
     }
 
-    fn search_text(&self, expression: &[u8], line: &str, place: usize) -> Answer
-        ensures means { result ≡ meaning expression.now line.now place }
-        ensures told { Told expression.now line.now place result }
-    {
-        search_line(self.heap, expression, line, place)
+    fn search_text(&self, expression: &[u8], line: &str, place: usize) -> Answer {
+        legality::check(expression)?;
+        if !is_edge(line, place) {
+            return Ok(None);
+        }
+        Ok(find(self.heap, expression, line, place))
     }
 }

@@ -3,7 +3,8 @@ ghost use Rattle.std.specs.Prelude.{◌≡◌, Some as Just, None as Neither, Ma
 ghost use Rattle.grammar.specs.Reader.{refusal as refusal_of};
 
 use crate::items::Items;
-use crate::legality::refusal;
+use crate::legality::check;
+use matcher::answer::Illegal;
 use std::str::from_utf8;
 
 #[derive(Clone, Copy)]
@@ -14,12 +15,10 @@ pub struct Expression<'a> {
 
 impl<'a> Expression<'a> {
     // The expression that the bytes spell; if they spell none, the place at which they are refused.
-    pub fn new(bytes: &'a [u8]) -> Result<Expression<'a>, usize>
-        ensures { MatchResult result (λ e. (e.text.now ≡ bytes.now) × (refusal_of bytes.now ≡ Neither)) (λ k. refusal_of bytes.now ≡ Just k) }
+    pub fn new(bytes: &'a [u8]) -> Result<Expression<'a>, Illegal>
+        ensures { MatchResult result (λ e. (e.text.now ≡ bytes.now) × (refusal_of bytes.now ≡ Neither)) (λ x. refusal_of bytes.now ≡ Just x.at) }
     {
-        if let Some(place) = refusal(bytes) {
-            return Err(place);
-        }
+        check(bytes)?;
         // every item is written in whole characters
         match from_utf8(bytes) {
             Ok(text) => Ok(Expression { text }),

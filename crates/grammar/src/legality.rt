@@ -1,19 +1,20 @@
 // Whether an expression is legal and, if it is not, where it is refused.
-ghost use Rattle.std.specs.Prelude.{◌≡◌};
-ghost use Rattle.matcher.specs.Refusals.{Judged};
+ghost use Rattle.std.specs.Prelude.{◌≡◌, None as Nowhere, MatchResult, OnOk};
+ghost use Rattle.matcher.specs.Refusals.{Longest, verdict};
 ghost use Rattle.grammar.specs.Grammar.{Legal};
 ghost use Rattle.grammar.specs.Parse.{Spelled, OneWay};
-ghost use Rattle.grammar.specs.Reader.{refusal as refusal_of};
+ghost use Rattle.grammar.specs.Reader.{refusal};
 
 use crate::reader::{Mode, State};
+use matcher::answer::Illegal;
 use matcher::reading;
 
-// None where the expression is legal, and else the length of the longest beginning that it shares with a legal one. The
+// An error where the expression is not legal, with the length of the longest beginning that it shares with a legal one. The
 // expression is read once.
-pub fn refusal(expression: &[u8]) -> Option<usize>
-    ensures read { result ≡ refusal_of expression.now }
-    ensures right { Judged Legal expression.now result }
-    ensures spelled { Spelled expression.now result }
+pub fn check(expression: &[u8]) -> Result<(), Illegal>
+    ensures read { result ≡ verdict (refusal expression.now) }
+    ensures right { MatchResult result (λ _. Legal expression.now) (λ x. Longest Legal expression.now x.at) }
+    ensures spelled { OnOk result (Spelled expression.now Nowhere) }
     ensures one_way { OneWay expression.now }
 {
     let start = State {
@@ -21,5 +22,5 @@ pub fn refusal(expression: &[u8]) -> Option<usize>
         depth: 0,
         mode: Mode::Plain(false),
     };
-    reading::refusal(start, expression)
+    reading::check(start, expression)
 }

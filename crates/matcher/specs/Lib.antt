@@ -1,3 +1,4 @@
+pub mod Answers
 pub mod Regions
 pub mod Laws
 pub mod Refusals

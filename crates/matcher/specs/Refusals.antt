@@ -1,5 +1,7 @@
 -- Where an expression is refused. Assumes nothing.
-use Rattle.std.specs.Prelude.{ℕ, ◌+◌, ◌<◌, ◌≤◌, Bool, cond, List, [], ◌∷◌, ◌++◌, length, take, Some, None, Option}
+use Rattle.std.specs.Prelude.{ℕ, ◌+◌, ◌<◌, ◌≤◌, Bool, cond, List, [], ◌∷◌, ◌++◌, length, take, Some, None, Option, Result, Ok, Err}
+use Rattle.matcher.specs.declared.answer.Illegal.{Illegal}
+use Rattle.matcher.specs.Answers.{illegal}
 
 -- n is the length of the longest beginning of e that something legal shares: some legal expression begins with the first n
 -- bytes of e, and none with more of it
@@ -27,3 +29,8 @@ read_on (Some s) f = one_on (f s)
 abbrev pub refuses : {S : Type 0} → (S → ℕ → Option S) → (S → Bool) → S → List ℕ → Option ℕ
 refuses next done s [] = cond (done s) None (Some 0)
 refuses next done s (b ∷ bs) = read_on (next s b) (λ after. refuses next done after bs)
+
+-- the same place, as an error
+abbrev pub verdict : Option ℕ → Result (Unit {0}) Illegal
+verdict None = Ok tt
+verdict (Some n) = Err (illegal n)

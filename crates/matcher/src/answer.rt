@@ -2,6 +2,8 @@
 ghost use Rattle.std.specs.Prelude.{◌≡◌};
 ghost use Rattle.matcher.specs.Regions.{spanning as spanning_of, group as group_of};
 
+use thiserror::Error;
+
 // Bytes of a line, from `begin` up to `end`.
 #[derive(Clone, Copy, Debug, PartialEq, Eq)]
 pub struct Span {
@@ -10,7 +12,7 @@ pub struct Span {
 }
 
 // Where the groups of a match lie: group 0 is the match itself, and a group that took no part is absent.
-#[derive(Clone, Copy)]
+#[derive(Clone, Copy, Debug, PartialEq, Eq)]
 pub struct Region {
     pub groups: [Option<Span>; 16],
 }
@@ -20,10 +22,7 @@ impl Region {
     pub fn group(&self, k: usize) -> Option<Span>
         ensures { result ≡ group_of self.now k }
     {
-        match self.groups.get(k) {
-            Some(group) => *group,
-            None => None,
-        }
+        self.groups.get(k).copied().flatten()
     }
 
     // A match without groups of its own.
@@ -36,10 +35,13 @@ impl Region {
     }
 }
 
-#[derive(Clone, Copy)]
-pub enum Answer {
-    Nothing,
-    Found(Region),
-    // the expression is not legal; a byte place in it
-    Refused(usize),
+// Why an expression is refused.
+#[derive(Clone, Copy, Debug, PartialEq, Eq, Error)]
+#[error("no legal expression goes on at byte {at}")]
+pub struct Illegal {
+    // the length of the longest beginning that a legal expression shares
+    pub at: usize,
 }
+
+// What a search found, if anything; or that the expression is not legal.
+pub type Answer = Result<Option<Region>, Illegal>;

@@ -1,6 +1,8 @@
 // An expression read a byte at a time, up to the first byte with which no legal expression goes on.
 ghost use Rattle.std.specs.Prelude.{◌≡◌, ℕ, Bool as Test, Option as Maybe};
-ghost use Rattle.matcher.specs.Refusals.{refuses};
+ghost use Rattle.matcher.specs.Refusals.{refuses, verdict};
+
+use crate::answer::Illegal;
 
 // How far an expression has been read.
 pub trait Reader: Copy {
@@ -17,20 +19,19 @@ pub trait Reader: Copy {
         ensures { result ≡ done self };
 }
 
-// How many bytes were read before the reading failed; none where the expression is legal.
-pub fn refusal<R: Reader>(start: R, expression: &[u8]) -> Option<usize>
-    ensures { result ≡ refuses R.next R.done start expression.now }
+// Whether the expression is legal; where it is not, the error says how many bytes were read before the reading failed.
+pub fn check<R: Reader>(start: R, expression: &[u8]) -> Result<(), Illegal>
+    ensures { result ≡ verdict (refuses R.next R.done start expression.now) }
 {
     let mut state = start;
-    for (i, b) in expression.iter().enumerate() {
-        match state.step(*b) {
-            Some(after) => state = after,
-            None => return Some(i),
-        }
+    for (at, b) in expression.iter().enumerate() {
+        state = state.step(*b).ok_or(Illegal { at })?;
     }
     if state.may_end() {
-        None
+        Ok(())
     } else {
-        Some(expression.len())
+        Err(Illegal {
+            at: expression.len(),
+        })
     }
 }

@@ -1,5 +1,5 @@
 -- The list of all matches, from the laws of a matcher. Assumes nothing.
-use Rattle.std.proofs.Common.{◌≡◌, ℕ, suc, ◌-◌, ◌<◌, ◌≤◌, eqb, leb, ◌⊎◌, List, [], ◌∷◌, ◌++◌, length, Some, None, IsUtf8, Option, sym, refl, ap, ◌∙◌, subst, ⊎_elim, append_assoc, append-nil, le_refl, arith, eq-eqb, ne_eqb, le-leb}
+use Rattle.std.proofs.Common.{◌≡◌, ℕ, suc, ◌-◌, ◌<◌, ◌≤◌, eqb, leb, ◌⊎◌, List, [], ◌∷◌, ◌++◌, length, Some, None, Ok, Err, IsUtf8, Option, sym, refl, ap, ◌∙◌, subst, ⊎_elim, append-nil, arith, eq-eqb, ne_eqb, le-leb}
 use Rattle.std.specs.Str.{IsCharBoundary}
 use Rattle.std.proofs.lemmas.Bool.{cond-true, cond-false, cases_eq, cases_lt}
 use Rattle.std.proofs.lemmas.Str.{IsCharBoundary-start}
@@ -7,46 +7,36 @@ use borrow.Author.Tests.{lt-leb}
 use Rattle.chars.specs.Edges.{NextEdge}
 use Rattle.matcher.specs.declared.answer.Span.{Span}
 use Rattle.matcher.specs.declared.answer.Region.{Region}
-use Rattle.matcher.specs.declared.answer.Answer.{Answer}
-use Rattle.matcher.specs.declared.answer.Answer.TheVariants.{Nothing, Found, Refused}
+use Rattle.matcher.specs.declared.answer.Illegal.{Illegal}
+use Rattle.matcher.specs.Answers.{Answer}
 use Rattle.matcher.specs.Regions.{group}
 use Rattle.matcher.specs.Laws.{Meaning, Lawful, Within}
 use Rattle.matches.specs.declared.step.Match.{Match}
-use Rattle.matches.specs.declared.step.Step.TheVariants.{NoMore, Next, Refused as RefusedAt}
 use Rattle.matches.specs.Steps.{go_on, GoesOn, taken, stepped, Further}
 use Rattle.matches.specs.Chains.{steps, Chain, Apart, Ordered, Outside, first_from, Finds, Matches}
 use Rattle.matches.proofs.Edges.{edge_next}
 
 -- a step, taken apart
 pub record Taken (l : List ℕ) (a : Answer) (m : Match) : Type 0 where
-  pub is : a ≡ Found m.region
+  pub is : a ≡ Ok (Some m.region)
   pub whole : group m.region 0 ≡ Some m.span
   pub on : m.next ≡ go_on l m.span
 
-take_of : (l : List ℕ) (r : Region) (o : Option Span) (m : Match) → group r 0 ≡ o → taken l r o ≡ Next m → Taken l (Found r) m
-take_of l r None m e h = let z : ◌≡◌ {A = ℕ} 0 1 = cc in absurd (omega arith)
+take_of : (l : List ℕ) (r : Region) (o : Option Span) (m : Match) → group r 0 ≡ o → taken l r o ≡ Ok (Some m) → Taken l (Ok (Some r)) m
+take_of l r None m e h = cc
 take_of l r (Some s) m e h =
     let k : ◌≡◌ {A = Match} (record { region = r; span = s; next = go_on l s }) m = cc in
-    subst (λ (n : Match). Taken l (Found r) n) k (record { is = refl; whole = e; on = refl })
+    subst (λ (n : Match). Taken l (Ok (Some r)) n) k (record { is = refl; whole = e; on = refl })
 
-step_of : (l : List ℕ) (a : Answer) (m : Match) → stepped l a ≡ Next m → Taken l a m
-step_of l Nothing m h = let z : ◌≡◌ {A = ℕ} 0 1 = cc in absurd (omega arith)
-step_of l (Found r) m h = take_of l r (group r 0) m refl h
-step_of l (Refused k) m h = let z : ◌≡◌ {A = ℕ} 0 1 = cc in absurd (omega arith)
+step_of : (l : List ℕ) (a : Answer) (m : Match) → stepped l a ≡ Ok (Some m) → Taken l a m
+step_of l (Ok None) m h = cc
+step_of l (Ok (Some r)) m h = take_of l r (group r 0) m refl h
+step_of l (Err x) m h = cc
 
-pub step_is : (l : List ℕ) (a : Answer) (m : Match) → Taken l a m → Next m ≡ stepped l a
+pub step_is : (l : List ℕ) (a : Answer) (m : Match) → Taken l a m → Ok (Some m) ≡ stepped l a
 step_is l a m t =
     let on : ◌≡◌ {A = Match} (record { region = m.region; span = m.span; next = go_on l m.span }) m = ap (λ (o : Option ℕ). record { region = m.region; span = m.span; next = o }) (sym t.on) in
-    sym (ap (stepped l) t.is ∙ ap (taken l m.region) t.whole ∙ ap Next on)
-
-take_refused : (l : List ℕ) (r : Region) (o : Option Span) (k : ℕ) → taken l r o ≡ RefusedAt k → ⊥
-take_refused l r None k h = let z : ◌≡◌ {A = ℕ} 0 1 = cc in omega arith
-take_refused l r (Some s) k h = let z : ◌≡◌ {A = ℕ} 0 1 = cc in omega arith
-
-pub refused_of : (l : List ℕ) (a : Answer) (k : ℕ) → stepped l a ≡ RefusedAt k → a ≡ Refused k
-refused_of l Nothing k h = let z : ◌≡◌ {A = ℕ} 0 1 = cc in absurd (omega arith)
-refused_of l (Found r) k h = absurd (take_refused l r (group r 0) k h)
-refused_of l (Refused j) k h = let same : j ≡ k = cc in ap Refused same
+    sym (ap (stepped l) t.is ∙ ap (taken l m.region) t.whole ∙ ap (λ (n : Match). Ok (Some n)) on)
 
 -- after an empty match the next edge, else the end
 pub goes_on : (l : List ℕ) (s : Span) → GoesOn l s (go_on l s)
@@ -114,19 +104,19 @@ module _ (g : Meaning) (law : Lawful g) (e l : List ℕ) where
         onward = subst (GoesOn l m.span) (sym t.on) (goes_on l m.span);
       }
 
-  pub found : (p : ℕ) (m : Match) → steps g e l p ≡ Next m → Further l p m
+  pub found : (p : ℕ) (m : Match) → steps g e l p ≡ Ok (Some m) → Further l p m
   found p m h = further p m (step_of l (g e l p) m h)
 
-  no_take : (p : ℕ) (r : Region) → g e l p ≡ Found r → taken l r (group r 0) ≡ NoMore → ⊥
+  no_take : (p : ℕ) (r : Region) → g e l p ≡ Ok (Some r) → taken l r (group r 0) ≡ Ok None → ⊥
   no_take p r is h =
       let x = (law.proper e l p r is).present in
       let y = ap (taken l r) x in
-      let z : ◌≡◌ {A = ℕ} 0 1 = cc in omega arith
+      cc
 
-  none_of : (p : ℕ) (a : Answer) → g e l p ≡ a → stepped l a ≡ NoMore → g e l p ≡ Nothing
-  none_of p Nothing is h = is
-  none_of p (Found r) is h = absurd (no_take p r is h)
-  none_of p (Refused k) is h = let z : ◌≡◌ {A = ℕ} 0 1 = cc in absurd (omega arith)
+  none_of : (p : ℕ) (a : Answer) → g e l p ≡ a → stepped l a ≡ Ok None → g e l p ≡ Ok None
+  none_of p (Ok None) is h = is
+  none_of p (Ok (Some r)) is h = absurd (no_take p r is h)
+  none_of p (Err x) is h = cc
 
   first_after : (o : Option ℕ) (s : Span) (ss : List Span) → Chain (steps g e l) o (s ∷ ss) → From o s.begin
   first_after None s ss c = c
@@ -184,25 +174,12 @@ abbrev pub ahead : List ℕ → Option ℕ → ℕ
 ahead l None = 0
 ahead l (Some p) = suc (length l) - p
 
-pub follows_more : (g : Meaning) (e l : List ℕ) (listed : List Span) (p : ℕ) (m : Match) → Next m ≡ steps g e l p → Follows g e l listed (Some p) → Follows g e l (listed ++ m.span ∷ []) m.next
-follows_more g e l listed p m is f = record {
-  joins = λ ss c. subst (Chain (steps g e l) (Some 0)) (sym (append_assoc listed (m.span ∷ []) ss)) (f.joins (m.span ∷ ss) (m, sym is, refl, c));
-}
-
 pub follows_end : (g : Meaning) (e l : List ℕ) (listed : List Span) (o : Option ℕ) → Chain (steps g e l) o [] → Follows g e l listed o → Chain (steps g e l) (Some 0) listed
 follows_end g e l listed o c f = subst (Chain (steps g e l) (Some 0)) (append-nil listed) (f.joins [] c)
 
-pub nearer : (l : List ℕ) (p : ℕ) (m : Match) (o : Option ℕ) → m.next ≡ o → Further l p m → ahead l o < ahead l (Some p)
-nearer l p m None is f = let in-line = f.from.0 in omega arith
-nearer l p m (Some q) is f =
-    let first = f.after in
-    let past = behind l m.span m.next q f.within f.onward (subst (λ (o : Option ℕ). From o q) (sym is) (le_refl q)) in
-    let in-line = f.from.0 in
-    omega arith
-
 -- where a match was found, the expression is legal
-pub legal : (g : Meaning) (law : Lawful g) (e l : List ℕ) (p : ℕ) (m : Match) → Next m ≡ steps g e l p → (l' : List ℕ) (p' k : ℕ) → g e l' p' ≡ Refused k → ⊥
+pub legal : (g : Meaning) (law : Lawful g) (e l : List ℕ) (p : ℕ) (m : Match) → Ok (Some m) ≡ steps g e l p → (l' : List ℕ) (p' : ℕ) (x : Illegal) → g e l' p' ≡ Err x → ⊥
 legal g law e l p m is l' p' k h =
     let x = (step_of l (g e l p) m (sym is)).is in
     let y = law.refuses e l' p' k h l p in
-    let z : ◌≡◌ {A = ℕ} 0 1 = cc in omega arith
+    cc

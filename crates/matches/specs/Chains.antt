@@ -1,19 +1,17 @@
 -- All matches of a line, left to right. Assumes nothing.
-use Rattle.std.specs.Prelude.{◌≡◌, ℕ, ◌<◌, ◌≤◌, cond, ◌⊎◌, List, [], ◌∷◌, Some, None, Option, ◌≢◌, nat_le}
+use Rattle.std.specs.Prelude.{◌≡◌, ℕ, ◌<◌, ◌≤◌, cond, ◌⊎◌, List, [], ◌∷◌, Some, None, Ok, Err, Option, ◌≢◌, nat_le}
 use Rattle.std.specs.Str.{IsCharBoundary}
 use Rattle.std.specs.List.{AllByRecursion}
 use Rattle.matcher.specs.declared.answer.Span.{Span}
 use Rattle.matcher.specs.declared.answer.Region.{Region}
-use Rattle.matcher.specs.declared.answer.Answer.{Answer}
-use Rattle.matcher.specs.declared.answer.Answer.TheVariants.{Nothing, Found, Refused}
+use Rattle.matcher.specs.declared.answer.Illegal.{Illegal as Refusal}
+use Rattle.matcher.specs.Answers.{Answer}
 use Rattle.matcher.specs.Regions.{group}
 use Rattle.matcher.specs.Laws.{Meaning, Within}
 use Rattle.matches.specs.declared.step.Match.{Match}
-use Rattle.matches.specs.declared.step.Step.{Step}
-use Rattle.matches.specs.declared.step.Step.TheVariants.{NoMore, Next}
 use Rattle.matches.specs.declared.all.Failure.{Failure}
 use Rattle.matches.specs.declared.all.Failure.TheVariants.{Illegal, Memory}
-use Rattle.matches.specs.Steps.{stepped}
+use Rattle.matches.specs.Steps.{Step, stepped}
 
 -- the steps of a matcher in a line
 abbrev pub steps : Meaning → List ℕ → List ℕ → ℕ → Step
@@ -23,8 +21,8 @@ steps g e l p = stepped l (g e l p)
 abbrev pub Chain : (ℕ → Step) → Option ℕ → List Span → Type 0
 Chain f None [] = Unit {0}
 Chain f None (s ∷ ss) = ⊥
-Chain f (Some p) [] = f p ≡ NoMore
-Chain f (Some p) (s ∷ ss) = (m : Match) × (f p ≡ Next m) × (m.span ≡ s) × Chain f m.next ss
+Chain f (Some p) [] = f p ≡ Ok None
+Chain f (Some p) (s ∷ ss) = (m : Match) × (f p ≡ Ok (Some m)) × (m.span ≡ s) × Chain f m.next ss
 
 -- t begins where s ends or later, and later than an empty s
 pub record Apart (s t : Span) : Type 0 where
@@ -47,8 +45,8 @@ first_from q [] = None
 first_from q (s ∷ ss) = cond (nat_le q s.begin) (Some s) (first_from q ss)
 
 abbrev pub Finds : Answer → Option Span → Type 0
-Finds a None = a ≡ Nothing
-Finds a (Some s) = (r : Region) × (a ≡ Found r) × (group r 0 ≡ Some s)
+Finds a None = a ≡ Ok None
+Finds a (Some s) = (r : Region) × (a ≡ Ok (Some r)) × (group r 0 ≡ Some s)
 
 pub record Matches (g : Meaning) (e l : List ℕ) (ss : List Span) : Type 0 where
   -- each is what the matcher finds where the one before left off, and after the last it finds nothing
@@ -59,5 +57,5 @@ pub record Matches (g : Meaning) (e l : List ℕ) (ss : List Span) : Type 0 wher
 
 -- an illegal expression is refused there in every line; of a legal one only memory may fall short
 abbrev pub Failed : Meaning → List ℕ → Failure → Type 0
-Failed g e (Illegal k) = (l : List ℕ) (p : ℕ) → g e l p ≡ Refused k
-Failed g e Memory = (l : List ℕ) (p k : ℕ) → g e l p ≢ Refused k
+Failed g e (Illegal x) = (l : List ℕ) (p : ℕ) → g e l p ≡ Err x
+Failed g e Memory = (l : List ℕ) (p : ℕ) (x : Refusal) → g e l p ≢ Err x

@@ -1,16 +1,18 @@
 -- One step from match to match. Assumes nothing.
-use Rattle.std.specs.Prelude.{◌≡◌, ℕ, zero, suc, ◌-◌, ◌≤◌, cond, List, length, Some, None, Option, ◌==◌, ◌≢◌}
+use Rattle.std.specs.Prelude.{◌≡◌, ℕ, zero, suc, ◌-◌, ◌≤◌, cond, List, length, Some, None, Ok, Err, Option, Result, ◌==◌, ◌≢◌}
 use Rattle.std.specs.Str.{IsCharBoundary}
 use Rattle.chars.specs.Edges.{edge, NextEdge}
 use Rattle.matcher.specs.declared.answer.Span.{Span}
 use Rattle.matcher.specs.declared.answer.Region.{Region}
-use Rattle.matcher.specs.declared.answer.Answer.{Answer}
-use Rattle.matcher.specs.declared.answer.Answer.TheVariants.{Nothing, Found, Refused}
+use Rattle.matcher.specs.declared.answer.Illegal.{Illegal}
+use Rattle.matcher.specs.Answers.{Answer}
 use Rattle.matcher.specs.Regions.{group}
 use Rattle.matcher.specs.Laws.{Within}
 use Rattle.matches.specs.declared.step.Match.{Match}
-use Rattle.matches.specs.declared.step.Step.{Step}
-use Rattle.matches.specs.declared.step.Step.TheVariants.{NoMore, Next, Refused as RefusedAt}
+
+-- a match, or none from the place on; an error where the expression is not legal
+abbrev pub Step : Type 0
+Step = Result (Option Match) Illegal
 
 -- the first edge among the n places from p on
 abbrev pub edge_from : List ℕ → ℕ → ℕ → Option ℕ
@@ -28,14 +30,14 @@ pub record GoesOn (l : List ℕ) (s : Span) (next : Option ℕ) : Type 0 where
 
 -- a region without group 0 is found by no lawful matcher
 abbrev pub taken : List ℕ → Region → Option Span → Step
-taken l r None = NoMore
-taken l r (Some s) = Next (record { region = r; span = s; next = go_on l s })
+taken l r None = Ok None
+taken l r (Some s) = Ok (Some (record { region = r; span = s; next = go_on l s }))
 
 -- the step that an answer leads to
 abbrev pub stepped : List ℕ → Answer → Step
-stepped l Nothing = NoMore
-stepped l (Found r) = taken l r (group r 0)
-stepped l (Refused k) = RefusedAt k
+stepped l (Ok None) = Ok None
+stepped l (Ok (Some r)) = taken l r (group r 0)
+stepped l (Err x) = Err x
 
 -- a match found from p: at or after p, which is an edge, and at edges of the line
 pub record Further (l : List ℕ) (p : ℕ) (m : Match) : Type 0 where
@@ -45,6 +47,6 @@ pub record Further (l : List ℕ) (p : ℕ) (m : Match) : Type 0 where
   pub onward : GoesOn l m.span m.next
 
 abbrev pub Onward : List ℕ → ℕ → Step → Type 0
-Onward l p NoMore = Unit {0}
-Onward l p (Next m) = Further l p m
-Onward l p (RefusedAt k) = Unit {0}
+Onward l p (Ok None) = Unit {0}
+Onward l p (Ok (Some m)) = Further l p m
+Onward l p (Err x) = Unit {0}

@@ -1,19 +1,29 @@
 // All matches of a line.
 ghost use Rattle.std.specs.Prelude.{◌≡◌, MatchResult};
-ghost use Rattle.matches.specs.declared.all.Failure.TheVariants.{Memory};
+ghost use Rattle.matches.specs.declared.all.Failure.TheVariants.{Illegal as Refused, Memory};
 ghost use Rattle.matches.specs.Chains.{Matches, Failed};
 
-use crate::step::{Step, next_match};
-use matcher::answer::Span;
+use crate::step::next_match;
+use matcher::answer::{Illegal, Span};
 use matcher::search::Matcher;
 use std::alloc::{AllocError, AllocFailed, Global};
+use thiserror::Error;
 
 // Why there is no list of matches.
-#[derive(Clone, Copy, Debug, PartialEq, Eq)]
+#[derive(Clone, Copy, Debug, PartialEq, Eq, Error)]
 pub enum Failure {
-    // the expression is not legal; a byte place in it
-    Illegal(usize),
+    #[error(transparent)]
+    Illegal(Illegal),
+    #[error("out of memory")]
     Memory,
+}
+
+impl From<Illegal> for Failure {
+    ghost from_gives = { λ x r. r ≡ Refused x };
+
+    fn from(illegal: Illegal) -> Failure {
+        Failure::Illegal(illegal)
+    }
 }
 
 impl From<AllocError> for Failure {
@@ -44,14 +54,11 @@ pub fn all_matches<M: Matcher>(
     let mut spans = Vec::new(heap);
     let mut place = Some(0);
     while let Some(at) = place {
-        match next_match(matcher, expression, line, at) {
-            Step::NoMore => return Ok(spans),
-            Step::Refused(fault) => return Err(Failure::Illegal(fault)),
-            Step::Next(found) => {
-                spans.push(found.span)?;
-                place = found.next;
-            }
-        }
+        let Some(found) = next_match(matcher, expression, line, at)? else {
+            return Ok(spans);
+        };
+        spans.push(found.span)?;
+        place = found.next;
     }
     Ok(spans)
 }

@@ -289,7 +289,7 @@ module _ (l : List ℕ) (n : ℕ) (a : List Item) (p : ℕ) (w : Way) (f : Fits 
       ∙ from_front l x.front x.inner x.behind p w fresh (subst (λ is. Fits l is p w) x.split f) x.balanced (record { sixteen = refl; under = tt }) (omega arith)
 
   none_laid : (k : ℕ) (s : Span) → group_of (laid fresh a w) k ≡ None → group_of (laid fresh a w) k ≡ Some s → ⊥
-  none_laid k s no' h = let z : ◌≡◌ {A = ℕ} 0 1 = cc in omega arith
+  none_laid k s no' h = cc
 
   other_laid : (k : ℕ) (s : Span) → group_of (laid fresh a w) k ≡ Some s → PairOf k n a
   other_laid k s h = ⊎_elim

@@ -39,12 +39,12 @@ module _ (l : List ℕ) (p : ℕ) where
       }
 
   pub chosen : (n : ℕ) (alts : List (List Item)) (r : Region) → first_of l n alts p ≡ Some r → Chosen l n alts p r
-  chosen n [] r h = let z : ◌≡◌ {A = ℕ} 0 1 = cc in absurd (omega arith)
+  chosen n [] r h = cc
   chosen n (a ∷ more) r h = chosen_here n a more r (chosen (n + pairs a) more r) (run l a p) refl h
 
   unchosen_here : (n : ℕ) (a : List Item) (more : List (List Item)) → (first_of l (n + pairs a) more p ≡ None → AllByRecursion (λ (b : List Item). run l b p ≡ None) more)
       → (o : Option Way) → run l a p ≡ o → or_else (region_by n a p o) (first_of l (n + pairs a) more p) ≡ None → AllByRecursion (λ (b : List Item). run l b p ≡ None) (a ∷ more)
-  unchosen_here n a more rest (Some w) e h = let z : ◌≡◌ {A = ℕ} 0 1 = cc in absurd (omega arith)
+  unchosen_here n a more rest (Some w) e h = cc
   unchosen_here n a more rest None e h = (e, rest h)
 
   pub unchosen : (n : ℕ) (alts : List (List Item)) → first_of l n alts p ≡ None → AllByRecursion (λ (a : List Item). run l a p ≡ None) alts

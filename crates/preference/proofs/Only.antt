@@ -1,10 +1,9 @@
 -- What is told of an answer is told of it alone. Assumes nothing.
-use Rattle.std.proofs.Common.{◌≡◌, ℕ, zero, suc, ◌<◌, List, [], ◌∷◌, ◌++◌, Some, None, Option, sym, refl, ap, ◌∙◌, subst, ⊎_elim, arith}
+use Rattle.std.proofs.Common.{◌≡◌, ℕ, zero, suc, ◌<◌, List, [], ◌∷◌, ◌++◌, Some, None, Option, sym, refl, ap, ◌∙◌, subst, ⊎_elim, arith, Ok, Err}
 use Rattle.std.proofs.lemmas.Bool.{cases_lt}
 use Rattle.matcher.specs.declared.answer.Span.{Span}
 use Rattle.matcher.specs.declared.answer.Region.{Region}
-use Rattle.matcher.specs.declared.answer.Answer.{Answer}
-use Rattle.matcher.specs.declared.answer.Answer.TheVariants.{Nothing, Found, Refused}
+use Rattle.matcher.specs.Answers.{Answer}
 use Rattle.matcher.specs.Regions.{group, span}
 use Rattle.matcher.specs.Refusals.{Longest}
 use Rattle.grammar.specs.Grammar.{Item, Legal}
@@ -13,7 +12,7 @@ use Rattle.ways.specs.Ways.{Fits, NoFurther}
 use Rattle.ways.specs.Meaning.{end_of, meaning}
 use Rattle.preference.specs.Brackets.{Bracketed}
 use Rattle.preference.specs.Found.{Spells, NoWay, pairs_of, First, Told, Agrees}
-use Rattle.preference.proofs.Telling.{told}
+use Rattle.preference.proofs.Telling.{told_meaning}
 
 -- ===== refusals
 not_sooner : (e : List ℕ) (m n : ℕ) → Longest Legal e m → Longest Legal e n → m < n → ⊥
@@ -77,7 +76,7 @@ module _ (n : ℕ) (a : List Item) (p : ℕ) (w : Way) (r t : Region) (x : Brack
 
 absent : (n : ℕ) (a : List Item) (p : ℕ) (w : Way) (r t : Region) → Bracketed n a p w r → Bracketed n a p w t → (k : ℕ) → 0 < k → (o : Option Span) → group t k ≡ o → group r k ≡ None → group r k ≡ group t k
 absent n a p w r t x y k pos None e h = h ∙ sym e
-absent n a p w r t x y k pos (Some s) e h = let there = present n a p w t r y x k s pos e in let z : ◌≡◌ {A = ℕ} 0 1 = cc in absurd (omega arith)
+absent n a p w r t x y k pos (Some s) e h = let there = present n a p w t r y x k s pos e in cc
 
 same_group : (n : ℕ) (a : List Item) (p : ℕ) (w : Way) (r t : Region) → Bracketed n a p w r → Bracketed n a p w t → (k : ℕ) → 0 < k → (o : Option Span) → group r k ≡ o → group r k ≡ group t k
 same_group n a p w r t x y k pos (Some s) h = h ∙ sym (present n a p w r t x y k s pos h)
@@ -118,7 +117,7 @@ module _ (is : List Item) (l : List ℕ) (p : ℕ) (r t : Region) (f : First is 
   groups_same (suc k) = same_group (pairs_of f.earlier) f.which f.begin f.way r t f.groups theirs_here (suc k) (omega arith) (group r (suc k)) refl
 
 -- where one has a match, the other does not have none
-missed : (e l : List ℕ) (p : ℕ) (r : Region) → Told e l p (Found r) → Told e l p Nothing → ⊥
+missed : (e l : List ℕ) (p : ℕ) (r : Region) → Told e l p (Ok (Some r)) → Told e l p (Ok None) → ⊥
 missed e l p r x y =
     let is : List Item = x.0.0 in
     let spells : Spells is e = (x.0.1, x.0.2) in
@@ -126,18 +125,18 @@ missed e l p r x y =
     no_way l f.begin f.earlier f.which f.later f.way (subst (λ alts. NoWay alts l f.begin) f.among (y.1 x.1 x.2 is spells f.begin f.after f.edge)) f.fits
 
 one_answer : (e l : List ℕ) (p : ℕ) (a b : Answer) → Told e l p a → Told e l p b → Agrees a b
-one_answer e l p (Refused m) (Refused n) x y = same_place e m n x y
-one_answer e l p (Refused m) (Found t) x y = x.illegal y.0
-one_answer e l p (Refused m) Nothing x y = x.illegal y.0
-one_answer e l p (Found r) (Refused n) x y = y.illegal x.0
-one_answer e l p (Found r) (Found t) x y =
+one_answer e l p (Err a) (Err b) x y = same_place e a.at b.at x y
+one_answer e l p (Err a) (Ok (Some t)) x y = x.illegal y.0
+one_answer e l p (Err a) (Ok None) x y = x.illegal y.0
+one_answer e l p (Ok (Some r)) (Err b) x y = y.illegal x.0
+one_answer e l p (Ok (Some r)) (Ok (Some t)) x y =
     let is : List Item = x.0.0 in
     let spells : Spells is e = (x.0.1, x.0.2) in
     groups_same is l p r t (x.3 is spells) (y.3 is spells)
-one_answer e l p (Found r) Nothing x y = missed e l p r x y
-one_answer e l p Nothing (Refused n) x y = y.illegal x.0
-one_answer e l p Nothing (Found t) x y = missed e l p t y x
-one_answer e l p Nothing Nothing x y = tt
+one_answer e l p (Ok (Some r)) (Ok None) x y = missed e l p r x y
+one_answer e l p (Ok None) (Err b) x y = y.illegal x.0
+one_answer e l p (Ok None) (Ok (Some t)) x y = missed e l p t y x
+one_answer e l p (Ok None) (Ok None) x y = tt
 
 pub only : (e l : List ℕ) (p : ℕ) (a : Answer) → Told e l p a → Agrees a (meaning e l p)
-only e l p a h = one_answer e l p a (meaning e l p) h (told e l p (meaning e l p) refl)
+only e l p a h = one_answer e l p a (meaning e l p) h (told_meaning e l p)

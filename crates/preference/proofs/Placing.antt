@@ -95,7 +95,7 @@ module _ (l : List ℕ) (u : IsUtf8 l) where
       all_laid is q w (lay x q y) a.1 f.1 (lay_laid x q y a.1 (further p q y.region a.0 h))
 
   blank_laid : (p : ℕ) → Laid l p blank
-  blank_laid p = record { within = λ k s h. let n = nones 16 k in let z : ◌≡◌ {A = ℕ} 0 1 = cc in absurd (omega arith) }
+  blank_laid p = record { within = λ k s h. let n = nones 16 k in cc }
 
   pub region_placed : (n : ℕ) (a : List Item) (p : ℕ) (w : Way) → IsCharBoundary l p → Fits l a p w → Placed l p (region_of n a p w)
   region_placed n a p w b f =

@@ -1,9 +1,8 @@
 -- What an answer says of the line. Assumes nothing.
-use Rattle.std.proofs.Common.{◌≡◌, ℕ, ◌+◌, List, [], ◌∷◌, Some, None, sym, ap, ◌∙◌, subst, arith}
+use Rattle.std.proofs.Common.{◌≡◌, ℕ, ◌+◌, List, [], ◌∷◌, Some, None, sym, refl, ap, ◌∙◌, subst, arith, Ok, Err}
 use Rattle.std.specs.List.{AllByRecursion}
 use Rattle.matcher.specs.declared.answer.Region.{Region}
-use Rattle.matcher.specs.declared.answer.Answer.{Answer}
-use Rattle.matcher.specs.declared.answer.Answer.TheVariants.{Nothing, Found, Refused}
+use Rattle.matcher.specs.Answers.{Answer}
 use Rattle.matcher.specs.Regions.{group}
 use Rattle.matcher.specs.Refusals.{Longest, Judged}
 use Rattle.scan.proofs.Earliest.{when_found, when_refused, when_nothing, nothing_at}
@@ -37,7 +36,7 @@ at_items e l q is s = ap (λ js. first_of l 0 (alternatives js) q) (sym (one_way
 no_match : (e l : List ℕ) (q : ℕ) (is : List Item) → Spells is e → at e l q ≡ None → NoWay (alternatives is) l q
 no_match e l q is s h = no_ways l q (alternatives is) (unchosen l q 0 (alternatives is) (sym (at_items e l q is s) ∙ h))
 
-first : (e l : List ℕ) (p : ℕ) (r : Region) → meaning e l p ≡ Found r → (is : List Item) → Spells is e → First is l p r
+first : (e l : List ℕ) (p : ℕ) (r : Region) → meaning e l p ≡ Ok (Some r) → (is : List Item) → Spells is e → First is l p r
 first e l p r h is sp =
     let f = when_found refusal at e l p r h in
     let b = f.begin in
@@ -64,11 +63,14 @@ first e l p r h is sp =
     }
 
 pub told : (e l : List ℕ) (p : ℕ) (a : Answer) → a ≡ meaning e l p → Told e l p a
-told e l p (Refused n) h = refused e n (when_refused refusal at e l p n (sym h))
-told e l p (Found r) h =
+told e l p (Err x) h = refused e x.at (when_refused refusal at e l p x (sym h))
+told e l p (Ok (Some r)) h =
     let text = expression_lawful.inside e l p r (sym h) in
     (legal e (when_found refusal at e l p r (sym h)).fine, text.0, text.1, first e l p r (sym h))
-told e l p Nothing h = (
+told e l p (Ok None) h = (
   legal e (when_nothing refusal at e l p (sym h)),
   λ u edge is sp q low eq. no_match e l q is sp (nothing_at refusal at e l p (sym h) u edge q low eq),
 )
+
+pub told_meaning : (e l : List ℕ) (p : ℕ) → Told e l p (meaning e l p)
+told_meaning e l p = told e l p (meaning e l p) refl

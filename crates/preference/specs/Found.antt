@@ -1,12 +1,11 @@
 -- What an answer says of the expression and the line: of all ways in which the items of an expression can take characters of the
 -- line, the one with the earliest begin, then of the first alternative, then the one that goes further at the first item at
 -- which two of them differ. Assumes nothing.
-use Rattle.std.specs.Prelude.{◌≡◌, ℕ, ◌+◌, ◌<◌, ◌≤◌, false, List, [], ◌∷◌, ◌++◌, Some, IsUtf8}
+use Rattle.std.specs.Prelude.{◌≡◌, ℕ, ◌+◌, ◌<◌, ◌≤◌, false, List, [], ◌∷◌, ◌++◌, Some, IsUtf8, None, Ok, Err}
 use Rattle.std.specs.Str.{IsCharBoundary}
 use Rattle.std.specs.List.{AllByRecursion}
 use Rattle.matcher.specs.declared.answer.Region.{Region}
-use Rattle.matcher.specs.declared.answer.Answer.{Answer}
-use Rattle.matcher.specs.declared.answer.Answer.TheVariants.{Nothing, Found, Refused}
+use Rattle.matcher.specs.Answers.{Answer}
 use Rattle.matcher.specs.Regions.{group, span}
 use Rattle.matcher.specs.Refusals.{Longest}
 use Rattle.grammar.specs.Grammar.{Item, bar, Good, written, Legal}
@@ -56,18 +55,17 @@ pub record First (is : List Item) (l : List ℕ) (p : ℕ) (r : Region) : Type 0
   pub no_further : (v : Way) → Fits l which begin v → NoFurther v way
 
 abbrev pub Told : List ℕ → List ℕ → ℕ → Answer → Type 0
-Told e l p (Refused n) = Longest Legal e n
-Told e l p (Found r) = Legal e × IsUtf8 l × IsCharBoundary l p × ((is : List Item) → Spells is e → First is l p r)
-Told e l p Nothing = Legal e × (IsUtf8 l → IsCharBoundary l p → (is : List Item) → Spells is e → (q : ℕ) → p ≤ q → IsCharBoundary l q → NoWay (alternatives is) l q)
+Told e l p (Err x) = Longest Legal e x.at
+Told e l p (Ok (Some r)) = Legal e × IsUtf8 l × IsCharBoundary l p × ((is : List Item) → Spells is e → First is l p r)
+Told e l p (Ok None) = Legal e × (IsUtf8 l → IsCharBoundary l p → (is : List Item) → Spells is e → (q : ℕ) → p ≤ q → IsCharBoundary l q → NoWay (alternatives is) l q)
 
 -- the same answer, group by group
 abbrev pub Agrees : Answer → Answer → Type 0
-Agrees (Refused m) (Refused n) = m ≡ n
-Agrees (Refused m) (Found t) = ⊥
-Agrees (Refused m) Nothing = ⊥
-Agrees (Found r) (Refused n) = ⊥
-Agrees (Found r) (Found t) = (k : ℕ) → group r k ≡ group t k
-Agrees (Found r) Nothing = ⊥
-Agrees Nothing (Refused n) = ⊥
-Agrees Nothing (Found t) = ⊥
-Agrees Nothing Nothing = Unit {0}
+Agrees (Err x) (Err y) = x.at ≡ y.at
+Agrees (Err x) (Ok o) = ⊥
+Agrees (Ok (Some r)) (Err y) = ⊥
+Agrees (Ok (Some r)) (Ok (Some t)) = (k : ℕ) → group r k ≡ group t k
+Agrees (Ok (Some r)) (Ok None) = ⊥
+Agrees (Ok None) (Err y) = ⊥
+Agrees (Ok None) (Ok (Some t)) = ⊥
+Agrees (Ok None) (Ok None) = Unit {0}

@@ -1,18 +1,17 @@
 -- Worked examples of the meaning, computed by hand from the rules. Assumes nothing.
-use Rattle.std.specs.Prelude.{◌≡◌, ℕ, List, [], ◌∷◌, ◌++◌, take, replicate, Some, None, codes, Option}
+use Rattle.std.specs.Prelude.{◌≡◌, ℕ, List, [], ◌∷◌, ◌++◌, take, replicate, Some, None, codes, Option, Ok, Err}
 use Rattle.matcher.specs.declared.answer.Span.{Span}
-use Rattle.matcher.specs.declared.answer.Answer.{Answer}
-use Rattle.matcher.specs.declared.answer.Answer.TheVariants.{Nothing, Found, Refused}
+use Rattle.matcher.specs.Answers.{Answer, illegal}
 use Rattle.matcher.specs.Regions.{span, spanning}
 use Rattle.ways.specs.Meaning.{meaning}
 
 -- a match, with group 0 and those that follow; the others are absent
 abbrev groups : List (Option Span) → Answer
-groups spans = Found (record { groups = take 16 (spans ++ replicate 16 None) })
+groups spans = Ok (Some (record { groups = take 16 (spans ++ replicate 16 None) }))
 
 -- a match without groups of its own
 abbrev from_to : ℕ → ℕ → Answer
-from_to begin end = Found (spanning begin end)
+from_to begin end = Ok (Some (spanning begin end))
 
 -- which match is found: the earliest begin, then the first alternative, then the longer of the earlier repeats
 abbrev pub Choices : Type 0
@@ -26,7 +25,7 @@ Choices =
     × (meaning (codes "x*") (codes "yx") 0 ≡ from_to 0 0)
     × (meaning (codes "x?") (codes "xx") 0 ≡ from_to 0 1)
     × (meaning (codes "a*ab") (codes "aaab") 0 ≡ from_to 0 4)
-    × (meaning (codes "a+a+") (codes "a") 0 ≡ Nothing)
+    × (meaning (codes "a+a+") (codes "a") 0 ≡ Ok None)
     × (meaning (codes "a") (codes "aa") 1 ≡ from_to 1 2)
 
 -- where groups lie
@@ -42,11 +41,11 @@ Groups =
 abbrev pub Ends : Type 0
 Ends =
     (meaning (codes "^a") (codes "aa") 0 ≡ from_to 0 1)
-    × (meaning (codes "^a") (codes "aa") 1 ≡ Nothing)
+    × (meaning (codes "^a") (codes "aa") 1 ≡ Ok None)
     × (meaning (codes "a$") (codes "aa") 0 ≡ from_to 1 2)
     × (meaning (codes "a$") (97 ∷ 97 ∷ 10 ∷ []) 0 ≡ from_to 1 2)
-    × (meaning (codes "a$") (97 ∷ 10 ∷ 98 ∷ []) 0 ≡ Nothing)
-    × (meaning (codes "a$") (97 ∷ 10 ∷ 10 ∷ []) 0 ≡ Nothing)
+    × (meaning (codes "a$") (97 ∷ 10 ∷ 98 ∷ []) 0 ≡ Ok None)
+    × (meaning (codes "a$") (97 ∷ 10 ∷ 10 ∷ []) 0 ≡ Ok None)
     × (meaning (codes "$") (97 ∷ 10 ∷ []) 2 ≡ from_to 2 2)
 
 -- which characters are taken; 195 and 182 spell one character, and 10 is in `[^a]` and not in `.`
@@ -58,11 +57,11 @@ Characters =
     × (meaning (195 ∷ 182 ∷ 43 ∷ []) (97 ∷ 195 ∷ 182 ∷ 195 ∷ 182 ∷ []) 0 ≡ from_to 1 5)
     × (meaning (codes "[^a]") (97 ∷ 195 ∷ 182 ∷ []) 0 ≡ from_to 1 3)
     × (meaning (codes "\\w\\s\\.") (codes "a b .") 0 ≡ from_to 2 5)
-    × (meaning (codes "\\1") (codes "1") 0 ≡ Nothing)
+    × (meaning (codes "\\1") (codes "1") 0 ≡ Ok None)
 
 -- a legal expression in a line that is not text, and from a place within a character; and one that is not legal
 abbrev pub Others : Type 0
 Others =
-    (meaning (codes "a") (97 ∷ 255 ∷ []) 0 ≡ Nothing)
-    × (meaning [] (195 ∷ 182 ∷ []) 1 ≡ Nothing)
-    × (meaning (codes "(a|b)") (codes "a") 0 ≡ Refused 2)
+    (meaning (codes "a") (97 ∷ 255 ∷ []) 0 ≡ Ok None)
+    × (meaning [] (195 ∷ 182 ∷ []) 1 ≡ Ok None)
+    × (meaning (codes "(a|b)") (codes "a") 0 ≡ Err (illegal 2))

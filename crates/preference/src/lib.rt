@@ -7,7 +7,7 @@
 #![tactic(auto)]
 
 ghost use Rattle.std.specs.Prelude.{◌≡◌, ℕ, true, List};
-ghost use Rattle.matcher.specs.declared.answer.Answer.{Answer};
+ghost use Rattle.matcher.specs.Answers.{Answer};
 ghost use Rattle.matcher.specs.Laws.{Lawful};
 ghost use Rattle.grammar.specs.Grammar.{Item};
 ghost use Rattle.ways.specs.Meaning.{alternatives, meaning};

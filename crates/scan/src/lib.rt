@@ -1,7 +1,7 @@
 // What a matcher finds that tries one place at a time.
 //
-// Such a matcher gives an `Attempt`: where it refuses an expression, and the match that begins at a place. `scan` and `scan_text` take
-// the first edge at which the attempt matches (specs/Earliest), and that this obeys the four laws is proved once (proofs/Earliest).
+// `first_from` takes a closure, the attempt at a place, and calls it at the edges of the line from a place on, up to the first at which
+// it finds something (specs/Earliest). That such a matcher obeys the four laws is proved once (proofs/Earliest).
 #![tactic(auto)]
 
 pub mod attempt;

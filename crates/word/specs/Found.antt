@@ -1,12 +1,11 @@
 -- What an answer says of the expression and the line. Assumes nothing.
-use Rattle.std.specs.Prelude.{◌≡◌, ℕ, suc, ◌+◌, ◌<◌, ◌≤◌, false, List, [], ◌∷◌, ◌++◌, length, IsUtf8, slice_index}
+use Rattle.std.specs.Prelude.{◌≡◌, ℕ, suc, ◌+◌, ◌<◌, ◌≤◌, false, List, [], ◌∷◌, ◌++◌, length, Ok, Err, Some, None, IsUtf8, slice_index}
 use Rattle.std.proofs.Math.Utf8.{encode}
 use Rattle.std.specs.Char.{to_ascii_lowercase}
 use Rattle.std.specs.Str.{IsCharBoundary}
 use Rattle.std.specs.List.{AllByRecursion}
 use Rattle.matcher.specs.declared.answer.Region.{Region}
-use Rattle.matcher.specs.declared.answer.Answer.{Answer}
-use Rattle.matcher.specs.declared.answer.Answer.TheVariants.{Nothing, Found, Refused}
+use Rattle.matcher.specs.Answers.{Answer}
 use Rattle.matcher.specs.Regions.{spanning}
 use Rattle.matcher.specs.Refusals.{Longest}
 use Rattle.word.specs.Grammar.{Sign, plain, wide, marked, numbered, Word, Expression, signs, words, Spells, Legal}
@@ -51,6 +50,6 @@ pub record First (x : Expression) (l : List ℕ) (p : ℕ) (r : Region) : Type 0
   pub no_other : NoneCounts earlier l begin
 
 abbrev pub Told : List ℕ → List ℕ → ℕ → Answer → Type 0
-Told e l p (Refused n) = Longest Legal e n
-Told e l p (Found r) = Legal e × ((x : Expression) → Spells x e → First x l p r)
-Told e l p Nothing = Legal e × (IsUtf8 l → IsCharBoundary l p → (x : Expression) → Spells x e → (q : ℕ) → p ≤ q → IsCharBoundary l q → NoneCounts (words x) l q)
+Told e l p (Err x) = Longest Legal e x.at
+Told e l p (Ok (Some r)) = Legal e × ((x : Expression) → Spells x e → First x l p r)
+Told e l p (Ok None) = Legal e × (IsUtf8 l → IsCharBoundary l p → (x : Expression) → Spells x e → (q : ℕ) → p ≤ q → IsCharBoundary l q → NoneCounts (words x) l q)

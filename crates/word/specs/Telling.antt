@@ -1,14 +1,13 @@
 -- What an answer of the word matcher tells, and that it obeys the laws. Assumes nothing.
 -- Proofs alone: no contract cites what is defined here. They stand in specs/ since the laws that an impl proves can name nothing else.
-use Rattle.std.specs.Prelude.{◌≡◌, ℕ, zero, suc, ◌+◌, ◌≤◌, Bool, true, false, cond, ◌&&◌, List, [], ◌∷◌, ◌++◌, map, length, drop, replicate, Some, None, IsUtf8, Option, slice_index_or, refl}
+use Rattle.std.specs.Prelude.{◌≡◌, ℕ, zero, suc, ◌+◌, ◌≤◌, Bool, true, false, cond, ◌&&◌, List, [], ◌∷◌, ◌++◌, map, length, drop, replicate, Some, None, Ok, Err, IsUtf8, Option, slice_index_or, refl}
 use Rattle.std.proofs.Common.{sym, ap, subst, ◌∙◌, arith}
 use Rattle.std.specs.Str.{IsCharBoundary}
 use Rattle.std.specs.List.{AllByRecursion}
 use Rattle.std.proofs.lemmas.Bool.{and_parts}
 use Rattle.matcher.specs.declared.answer.Span.{Span}
 use Rattle.matcher.specs.declared.answer.Region.{Region}
-use Rattle.matcher.specs.declared.answer.Answer.{Answer}
-use Rattle.matcher.specs.declared.answer.Answer.TheVariants.{Nothing, Found, Refused}
+use Rattle.matcher.specs.Answers.{Answer}
 use Rattle.matcher.specs.Regions.{group, span, spanning}
 use Rattle.matcher.specs.Laws.{Within, Lawful}
 use Rattle.scan.specs.Earliest.{Placed}
@@ -124,9 +123,12 @@ first e l p r f x sp =
     }
 
 pub told : (e l : List ℕ) (p : ℕ) (a : Answer) → a ≡ meaning e l p → Told e l p a
-told e l p (Refused n) h = refused e n (when_refused refusal word_at e l p n (sym h))
-told e l p (Found r) h = let f = when_found refusal word_at e l p r (sym h) in (legal e f.fine, first e l p r f)
-told e l p Nothing h = (
+told e l p (Err x) h = refused e x.at (when_refused refusal word_at e l p x (sym h))
+told e l p (Ok (Some r)) h = let f = when_found refusal word_at e l p r (sym h) in (legal e f.fine, first e l p r f)
+told e l p (Ok None) h = (
   legal e (when_nothing refusal word_at e l p (sym h)),
   λ u edge x sp q low eq. no_words e l q x sp (nothing_at refusal word_at e l p (sym h) u edge q low eq),
 )
+
+pub told_meaning : (e l : List ℕ) (p : ℕ) → Told e l p (meaning e l p)
+told_meaning e l p = told e l p (meaning e l p) refl

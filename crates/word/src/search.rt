@@ -1,61 +1,49 @@
 // The matcher: its meaning, its laws, and what a search says of the line.
 ghost use Rattle.std.specs.Prelude.{◌≡◌};
-ghost use Rattle.scan.specs.Earliest.{earliest};
-ghost use Rattle.word.specs.Reader.{refusal as refusal_of};
-ghost use Rattle.word.specs.Meaning.{word_at, meaning};
+ghost use Rattle.std.specs.Str.{IsCharBoundary};
+ghost use Rattle.word.specs.Meaning.{word_at as word_at_spec, meaning};
 ghost use Rattle.word.specs.Found.{Told};
 ghost use Rattle.word.specs.Telling;
 ghost use Rattle.word.specs.Telling.{word_lawful};
 
 use crate::reader::State;
 use crate::walk::{first_word, free_before};
-use matcher::answer::{Answer, Region};
-use matcher::reading::refusal;
+use matcher::answer::{Answer, Illegal, Region};
+use matcher::reading;
 use matcher::search::Matcher;
-use scan::attempt::{Attempt, scan, scan_text};
+use scan::attempt::first_from;
 
 #[derive(Clone, Copy)]
 pub struct WordMatcher;
 
-impl Attempt for WordMatcher {
-    ghost refusal = { λ _. refusal_of };
-
-    ghost at = { λ _. word_at };
-
-    ghost placed = { λ a e l p r fine utf8 edge h. Telling.placed e l p r fine utf8 edge h };
-
-    fn refuses(&self, expression: &[u8]) -> Option<usize> {
-        refusal(State::Empty, expression)
+// The first word of the expression that counts at the place.
+fn word_at(expression: &[u8], line: &str, place: usize) -> Option<Region>
+    requires { IsCharBoundary line.now place }
+    ensures { result ≡ word_at_spec expression.now line.now place }
+{
+    let bytes = line.as_bytes();
+    if !free_before(bytes, place) {
+        return None;
     }
-
-    fn attempt(&self, expression: &[u8], line: &str, place: usize) -> Option<Region> {
-        let bytes = line.as_bytes();
-        if !free_before(bytes, place) {
-            return None;
-        }
-        match first_word(expression, bytes, place) {
-            Some(end) => Some(Region::spanning(place, end)),
-            None => None,
-        }
-    }
+    let end = first_word(expression, bytes, place)?;
+    Some(Region::spanning(place, end))
 }
 
 impl Matcher for WordMatcher {
     ghost means = { λ _. meaning };
 
+    ghost tells = { λ _. Told };
+
     ghost lawful = { λ m. word_lawful };
 
-    fn search(&self, expression: &[u8], line: &[u8], place: usize) -> Answer
-        ensures means { result ≡ meaning expression.now line.now place }
-        ensures told { Told expression.now line.now place result }
-    {
-        scan(self, expression, line, place)
+    ghost told = { λ m e l p. Telling.told_meaning e l p };
+
+    fn check(&self, expression: &[u8]) -> Result<(), Illegal> {
+        reading::check(State::Empty, expression)
     }
 
-    fn search_text(&self, expression: &[u8], line: &str, place: usize) -> Answer
-        ensures means { result ≡ meaning expression.now line.now place }
-        ensures told { Told expression.now line.now place result }
-    {
-        scan_text(self, expression, line, place)
+    fn search_text(&self, expression: &[u8], line: &str, place: usize) -> Answer {
+        self.check(expression)?;
+        first_from(line, place, |at| Ok(word_at(expression, line, at)))
     }
 }

@@ -2,7 +2,7 @@ use Rattle.std.proofs.Common.{◌≡◌, ℕ, true, false, List, Some, None, Opt
 use Rattle.word.specs.Meaning.{free_before, words_of, word_at}
 use Rattle.word.specs.Walks.{fresh, found}
 use Rattle.word.proofs.Walking.{spanned, walk_found, none_touched}
-use Rattle.word.proofs.search.WordMatcherAttempt.attempt.Goals as goal
+use Rattle.word.proofs.search.word_at.Goals as goal
 
 -- the bytes are those of the line
 module _ (e bytes line : List ℕ) (p : ℕ) (same : bytes ≡ line) where
@@ -16,11 +16,12 @@ pub returns-then-not-free_before : goal.returns-then-not-free_before
 returns-then-not-free_before c =
     touched c.args.expression.now c.as_bytes-bytes.result.now c.args.line.now c.args.place c.as_bytes-bytes.ensures.value (sym c.if-not-free_before.ensures)
 
-pub returns-in-Some : goal.returns-in-Some
-returns-in-Some c =
-    ap Some c.spanning.ensures
-    ∙ walked c.args.expression.now c.as_bytes-bytes.result.now c.args.line.now c.args.place c.as_bytes-bytes.ensures.value (sym c.if-not-free_before.ensures) (Some c.in-Some.end) (sym c.in-Some.is ∙ c.first_word.ensures)
+pub returns-in_err-end : goal.returns-in_err-end
+returns-in_err-end c =
+    c.from_residual.ensures
+    ∙ walked c.args.expression.now c.as_bytes-bytes.result.now c.args.line.now c.args.place c.as_bytes-bytes.ensures.value (sym c.if-not-free_before.ensures) None (sym c.in_err-end.was ∙ c.first_word.ensures)
 
-pub returns-in-None : goal.returns-in-None
-returns-in-None c =
-    walked c.args.expression.now c.as_bytes-bytes.result.now c.args.line.now c.args.place c.as_bytes-bytes.ensures.value (sym c.if-not-free_before.ensures) None (sym c.in-None.is ∙ c.first_word.ensures)
+pub returns : goal.returns
+returns c =
+    ap Some c.spanning.ensures
+    ∙ walked c.args.expression.now c.as_bytes-bytes.result.now c.args.line.now c.args.place c.as_bytes-bytes.ensures.value (sym c.if-not-free_before.ensures) (Some c.in_ok-end.end) (sym c.in_ok-end.was ∙ c.first_word.ensures)
