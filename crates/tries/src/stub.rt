@@ -1,0 +1,4 @@
+unsafe extern "C" {
+    pub safe fn nothing()
+        ensures { ⊥ };
+}
