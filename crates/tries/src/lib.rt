@@ -5,4 +5,3 @@
 
 pub mod limit;
 pub mod run;
-mod stub;

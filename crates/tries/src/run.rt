@@ -1,12 +1,10 @@
 // The match of one alternative by trying: each repeat takes as many characters as it can, and gives back one at a time.
 //
 // Nothing is remembered, so that the work can grow beyond all bounds; whoever cannot have that sets a limit.
-ghost use Rattle.std.specs.Prelude.{◌≡◌, ℕ, List, IfOk};
-ghost use Rattle.grammar.specs.Grammar as g;
+ghost use Rattle.std.specs.Prelude.{◌≡◌, [], IfOk};
 ghost use Rattle.tries.specs.Tried.{Tried, TriedTimes, TriedMost};
 
 use crate::limit::Limit;
-use crate::stub::nothing;
 use arrayvec::ArrayVec;
 use grammar::items::{Item, Items, Piece, Times};
 use ways::cursor::Cursor;
@@ -24,7 +22,11 @@ pub struct Tries<L> {
 
 impl<L: Limit> Tries<L> {
     // Tries that may be nested so deep.
-    pub fn new(limit: L, depth: usize) -> Tries<L> {
+    pub fn new(limit: L, depth: usize) -> Tries<L>
+        ensures limit { result.limit ≡ limit }
+        ensures depth { result.depth ≡ depth }
+        ensures none_noted { result.brackets.items ≡ [] }
+    {
         Tries {
             limit,
             depth,
@@ -34,7 +36,12 @@ impl<L: Limit> Tries<L> {
 
     // Where the items end, up to the next bar, from the place on, if they match.
     #[cycle(run_run_most_run_times)]
-    fn run(&mut self, items: &Items<'_>, from: &Cursor<'_>, depth: usize) -> Result<Option<usize>, L::Stop>
+    fn run(
+        &mut self,
+        items: &Items<'_>,
+        from: &Cursor<'_>,
+        depth: usize,
+    ) -> Result<Option<usize>, L::Stop>
         ensures { IfOk result (λ r. Tried items.now.rest.now from.now.line.now from.now.place self.old.brackets.items r self.new.brackets.items) }
     {
         let Some((item, items)) = items.split_first() else {
@@ -60,7 +67,14 @@ impl<L: Limit> Tries<L> {
 
     // The piece, as often as `times` says, and the items behind it.
     #[cycle(run_run_most_run_times)]
-    fn run_times(&mut self, piece: &Piece<'_>, times: Times, items: &Items<'_>, from: &Cursor<'_>, depth: usize) -> Result<Option<usize>, L::Stop>
+    fn run_times(
+        &mut self,
+        piece: &Piece<'_>,
+        times: Times,
+        items: &Items<'_>,
+        from: &Cursor<'_>,
+        depth: usize,
+    ) -> Result<Option<usize>, L::Stop>
         ensures { IfOk result (λ r. TriedTimes piece.now times items.now.rest.now from.now.line.now from.now.place self.old.brackets.items r self.new.brackets.items) }
     {
         match (times, from.step(piece)) {
@@ -78,7 +92,13 @@ impl<L: Limit> Tries<L> {
 
     // The piece as often as can be, and the items behind it.
     #[cycle(run_run_most_run_times)]
-    fn run_most(&mut self, piece: &Piece<'_>, items: &Items<'_>, from: &Cursor<'_>, depth: usize) -> Result<Option<usize>, L::Stop>
+    fn run_most(
+        &mut self,
+        piece: &Piece<'_>,
+        items: &Items<'_>,
+        from: &Cursor<'_>,
+        depth: usize,
+    ) -> Result<Option<usize>, L::Stop>
         ensures { IfOk result (λ r. TriedMost piece.now items.now.rest.now from.now.line.now from.now.place self.old.brackets.items r self.new.brackets.items) }
     {
         let depth = self.limit.deeper(depth)?;
@@ -96,7 +116,11 @@ impl<L: Limit> FindWay for Tries<L> {
 
     ghost serves = { λ _ _ _. Unit {0} };
 
-    fn find_way(&mut self, start: &Start<'_>, from: &Cursor<'_>) -> Result<Option<Matched>, L::Stop> {
+    fn find_way(
+        &mut self,
+        start: &Start<'_>,
+        from: &Cursor<'_>,
+    ) -> Result<Option<Matched>, L::Stop> {
         self.brackets.clear();
         let Some(end) = self.run(&start.items, from, self.depth)? else {
             return Ok(None);

@@ -1,1 +1,0 @@
-void nothing(void){}

@@ -1,4 +1,0 @@
-unsafe extern "C" {
-    pub safe fn nothing()
-        ensures { ⊥ };
-}
