@@ -1,7 +1,6 @@
 -- What the tries of an alternative come to, one item on. Assumes nothing.
-use Rattle.std.proofs.Common.{◌≡◌, ℕ, Result, Ok, Err, OnOk, OnErr, zero, suc, ◌+◌, ◌-◌, ◌<◌, ◌≤◌, Bool, true, false, cond, eqb, ◌⊎◌, inl, inr, List, [], ◌∷◌, ◌++◌, length, take, drop, Some, None, Option, sym, refl, ap, ◌∙◌, subst, append_assoc, length-append, arith}
+use Rattle.std.proofs.Common.{◌≡◌, ℕ, Result, Ok, Err, OnOk, OnErr, zero, suc, ◌+◌, ◌-◌, ◌<◌, ◌≤◌, true, false, eqb, ◌⊎◌, inl, inr, List, [], ◌∷◌, ◌++◌, length, take, drop, Some, None, Option, sym, refl, ap, ◌∙◌, append_assoc, length-append, arith}
 use Rattle.std.specs.Prelude.{reverse, is_some}
-use Rattle.std.proofs.lemmas.Bool.{false≢true}
 use Rattle.std.proofs.lemmas.List.{append-nil, length-reverse, reverse-reverse}
 use Rattle.std.proofs.lemmas.Grind.{reverse_onto, common_steps}
 use Rattle.grammar.specs.declared.items.Piece.{Piece}
@@ -12,7 +11,7 @@ use Rattle.grammar.specs.declared.items.Item.TheVariants as i
 use Rattle.grammar.specs.declared.items.Items.{Items}
 use Rattle.grammar.specs.Grammar as g
 use Rattle.grammar.specs.Items.{IsPiece, IsItem, Written, Reads}
-use Rattle.ways.specs.Match.{Way, step, at_end, then, else, when, from, most, run}
+use Rattle.ways.specs.Match.{Way, step, at_end, then, else, from, most, run}
 use Rattle.ways.specs.Meaning.{leading, end_of}
 use Rattle.ways.specs.Matched.{is_bracket, brackets}
 use Rattle.ways.specs.Pieces.{Steps, place_of}
@@ -21,7 +20,7 @@ use Rattle.ways.proofs.Reading.{none_written, seen_as, seen_times_as}
 use Rattle.ways.specs.declared.cursor.Cursor.{Cursor}
 use Rattle.ways.specs.declared.start.Start.{Start}
 use Rattle.ways.specs.Starts.{Begins}
-use Rattle.tries.specs.Tried.{Ends, Tried, TriedTimes, TriedMost}
+use Rattle.tries.specs.Tried.{Ends, EndsAt, Tried, TriedTimes, TriedMost}
 
 -- ===== as many steps as there can be: no more than what is left of the line
 module _ (l : List ℕ) (x : g.Piece) (k : ℕ → Option Way) where
@@ -79,12 +78,7 @@ module _ (p : ℕ) (ms : List ℕ) where
   -- an item that is no bracket ends at q
   pub on_item : (x : g.Item) (js : List g.Item) (q : ℕ) (o : Option Way) (r : Option ℕ) (ns : List ℕ) → is_bracket x ≡ false → Ends js q o ms r ns → Ends (x ∷ js) p (from q o) ms r ns
   on_item x js q o None ns plain h = (ap (from q) h.0, h.1)
-  on_item x js q o (Some e) ns plain h = (
-    q ∷ h.0,
-    ap (from q) h.1,
-    h.2,
-    subst (λ (t : Bool). length ms + length (cond t (q ∷ brackets js h.0) (brackets js h.0)) ≤ 30 → ns ≡ ms ++ reverse (cond t (q ∷ brackets js h.0) (brackets js h.0))) (sym plain) h.3,
-  )
+  on_item x js q o (Some e) ns plain h = (q ∷ h.0, ap (from q) h.1, h.2, rw plain h.3)
 
   behind : (bs mid : List ℕ) → mid ≡ ms ++ reverse bs → mid ++ p ∷ [] ≡ ms ++ reverse (p ∷ bs)
   behind bs mid e = ap (λ ns. ns ++ p ∷ []) e ∙ append_assoc ms (reverse bs) (p ∷ []) ∙ ap (λ ns. ms ++ ns) (sym (reverse_onto bs p []))
@@ -106,22 +100,20 @@ module _ (p : ℕ) (ms : List ℕ) where
     p ∷ h.0,
     ap (from p) h.1,
     h.2,
-    subst (λ (t : Bool). length ms + length (cond t (p ∷ brackets js h.0) (brackets js h.0)) ≤ 30 → ns ≡ ms ++ reverse (cond t (p ∷ brackets js h.0) (brackets js h.0))) (sym bracket)
-        (λ fits.
+    rw bracket (λ fits.
         let before : mid ≡ ms ++ reverse (brackets js h.0) = h.3 (omega arith) in
         pushed (room (brackets js h.0) mid before fits) ∙ behind (brackets js h.0) mid before),
   )
 
   -- what was tried first failed, and another try follows
   pub tried_again : (js : List g.Item) (a b : Option Way) (mid ns : List ℕ) (r : Option ℕ) → Ends js p a ms None mid → Ends js p b mid r ns → Ends js p (else a b) ms r ns
-  tried_again js a b mid ns r h k =
-      subst (λ o. Ends js p (else o b) ms r ns) (sym h.0) (subst (λ ks. Ends js p b ks r ns) h.1 k)
+  tried_again js a b mid ns r h k = rw h.0 (rw h.1 at k)
 
   -- what was tried first did not fail
   pub tried_once : (js : List g.Item) (a b : Option Way) (e : ℕ) (ns : List ℕ) → Ends js p a ms (Some e) ns → Ends js p (else a b) ms (Some e) ns
   tried_once js a b e ns h = (h.0, ap (λ o. else o b) h.1, h.2, h.3)
 
-  -- a way from q on with a place to it is also one from an earlier place, however often the piece is taken
+  -- a way with a place to it from q on is also one from an earlier place, however often the piece is taken
   earlier_by : (x : g.Piece) (v w : g.Times) (js : List g.Item) (q : ℕ) (o : Option Way) (r : Option ℕ) (ns : List ℕ) → (o ≡ Some [] → ⊥)
       → Ends (g.takes x w ∷ js) q o ms r ns → Ends (g.takes x v ∷ js) p o ms r ns
   earlier_by x v w js q o None ns filled h = h
@@ -140,162 +132,132 @@ module _ (p : ℕ) (ms : List ℕ) where
 -- a place is noted where the items behind it match
 pub noted_by : {T E : Type 0} (p : ℕ) (ms : List ℕ) (o : Option ℕ) (mid ns : List ℕ) (r : Result T E) → is_some o ≡ true
     → OnOk r (ns ≡ mid ++ p ∷ []) → OnErr r (length mid ≡ 30) → Noted p ms o mid ns
-noted_by p ms None mid ns r some ok err = absurd (false≢true some)
+noted_by p ms None mid ns r some ok err = cc
 noted_by p ms (Some e) mid ns (Ok x) some ok err = λ fits. ok
 noted_by p ms (Some e) mid ns (Err x) some ok err = λ fits. absurd (omega arith)
 
 pub not_noted : (p : ℕ) (ms : List ℕ) (o : Option ℕ) (mid ns : List ℕ) → is_some o ≡ false → ns ≡ mid → Noted p ms o mid ns
 not_noted p ms None mid ns none same = same
-not_noted p ms (Some e) mid ns none same = absurd (false≢true (sym none))
+not_noted p ms (Some e) mid ns none same = cc
 
 -- ===== the items
-module _ (bytes l : List ℕ) (p : ℕ) (ms : List ℕ) where
+module _ (items : Items) (at : Cursor) (ms : List ℕ) where
   -- nothing is left of the expression
-  pub ends : Reads bytes None → Tried bytes l p ms (Some p) ms
-  ends reads is w = subst (λ js. Ends (leading js) p (run l (leading js) p) ms (Some p) ms) (sym (none_written bytes reads is w)) (leaf p ms)
+  pub ends : Reads items.rest.now None → Tried items at ms (Some at.place) ms
+  ends reads is w = rw (none_written items.rest.now reads is w) (leaf at.place ms)
 
-  module _ (item : Item) (others : Items) (reads : Reads bytes (Some (item, others))) (r : Option ℕ) (ns : List ℕ) where
-    abbrev EndsAt : List g.Item → Type 0
-    EndsAt js = Ends js p (run l js p) ms r ns
-
+  module _ (item : Item) (others : Items) (reads : Reads items.rest.now (Some (item, others))) where
     -- by the first item, and the others
-    by_first : ((y : g.Item) (is : List g.Item) → IsItem item y → Written others.rest.now is → EndsAt (leading (y ∷ is))) → Tried bytes l p ms r ns
-    by_first go [] w = absurd (reads [] w)
-    by_first go (y ∷ is) w = let h = reads (y ∷ is) w in go y is h.0 h.1
+    by_first : (r : Option ℕ) (ns : List ℕ) → ((y : g.Item) (is : List g.Item) → IsItem item y → Written others.rest.now is → EndsAt at (leading (y ∷ is)) ms r ns) → Tried items at ms r ns
+    by_first r ns go [] w = absurd (reads [] w)
+    by_first r ns go (y ∷ is) w = let h = reads (y ∷ is) w in go y is h.0 h.1
 
-    pub takes : (t : Piece) (v : Times) → item ≡ i.Take t v → TriedTimes t v others.rest.now l p ms r ns → Tried bytes l p ms r ns
-    takes t v same tried = by_first (λ y is h w.
-        let s = seen_as item (i.Take t v) y same h in
-        subst (λ z. EndsAt (leading (z ∷ is))) (sym s.2) (tried s.0 s.1 is s.3 s.4 w))
+    pub takes : (r : Option ℕ) (ns : List ℕ) (t : Piece) (v : Times) → item ≡ i.Take t v → TriedTimes t v others at ms r ns → Tried items at ms r ns
+    takes r ns t v same tried = by_first r ns (λ y is h w.
+        let s = seen_as item (i.Take t v) y same h in rw s.2 (tried s.0 s.1 is s.3 s.4 w))
 
-    pub starts : item ≡ i.Start → eqb p 0 ≡ true → Tried others.rest.now l p ms r ns → Tried bytes l p ms r ns
-    starts same holds tried = by_first (λ y is h w.
-        subst (λ z. EndsAt (leading (z ∷ is))) (sym (seen_as item i.Start y same h))
-        (subst (λ b. Ends (g.start ∷ leading is) p (when b (from p (run l (leading is) p))) ms r ns) (sym holds)
-        (on_item p ms g.start (leading is) p (run l (leading is) p) r ns refl (tried is w))))
-
-    pub ends_line : item ≡ i.End → at_end l p ≡ true → Tried others.rest.now l p ms r ns → Tried bytes l p ms r ns
-    ends_line same holds tried = by_first (λ y is h w.
-        subst (λ z. EndsAt (leading (z ∷ is))) (sym (seen_as item i.End y same h))
-        (subst (λ b. Ends (g.end ∷ leading is) p (when b (from p (run l (leading is) p))) ms r ns) (sym holds)
-        (on_item p ms g.end (leading is) p (run l (leading is) p) r ns refl (tried is w))))
-
-  module _ (item : Item) (others : Items) (reads : Reads bytes (Some (item, others))) where
     -- the alternative ends at a bar
-    pub bars : item ≡ i.Bar → Tried bytes l p ms (Some p) ms
-    bars same = by_first item others reads (Some p) ms (λ y is h w.
-        subst (λ z. Ends (leading (z ∷ is)) p (run l (leading (z ∷ is)) p) ms (Some p) ms) (sym (seen_as item i.Bar y same h)) (leaf p ms))
+    pub bars : item ≡ i.Bar → Tried items at ms (Some at.place) ms
+    bars same = by_first (Some at.place) ms (λ y is h w. rw (seen_as item i.Bar y same h) (leaf at.place ms))
 
-    -- where it is not known to match
-    fails : ((y : g.Item) (is : List g.Item) → IsItem item y → run l (leading (y ∷ is)) p ≡ None) → Tried bytes l p ms None ms
-    fails none = by_first item others reads None ms (λ y is h w. (none y is h, refl))
+    pub starts : (r : Option ℕ) (ns : List ℕ) → item ≡ i.Start → eqb at.place 0 ≡ true → Tried others at ms r ns → Tried items at ms r ns
+    starts r ns same holds tried = by_first r ns (λ y is h w.
+        rw (seen_as item i.Start y same h, holds) (on_item at.place ms g.start (leading is) at.place (run at.line.now (leading is) at.place) r ns refl (tried is w)))
+
+    pub ends_line : (r : Option ℕ) (ns : List ℕ) → item ≡ i.End → at_end at.line.now at.place ≡ true → Tried others at ms r ns → Tried items at ms r ns
+    ends_line r ns same holds tried = by_first r ns (λ y is h w.
+        rw (seen_as item i.End y same h, holds) (on_item at.place ms g.end (leading is) at.place (run at.line.now (leading is) at.place) r ns refl (tried is w)))
 
     -- an item that takes nothing, and does not hold here
-    pub not_here : ((item ≡ i.Start) × (eqb p 0 ≡ false)) ⊎ (((item ≡ i.End) × (at_end l p ≡ false)) ⊎ (item ≡ i.Never)) → Tried bytes l p ms None ms
-    not_here (inl h) = fails (λ y is seen.
-        ap (λ z. run l (leading (z ∷ is)) p) (seen_as item i.Start y h.0 seen) ∙ ap (λ b. when b (from p (run l (leading is) p))) h.1)
-    not_here (inr (inl h)) = fails (λ y is seen.
-        ap (λ z. run l (leading (z ∷ is)) p) (seen_as item i.End y h.0 seen) ∙ ap (λ b. when b (from p (run l (leading is) p))) h.1)
-    not_here (inr (inr h)) = fails (λ y is seen. ap (λ z. run l (leading (z ∷ is)) p) (seen_as item i.Never y h seen).1)
+    pub not_here : ((item ≡ i.Start) × (eqb at.place 0 ≡ false)) ⊎ (((item ≡ i.End) × (at_end at.line.now at.place ≡ false)) ⊎ (item ≡ i.Never)) → Tried items at ms None ms
+    not_here (inl h) = by_first None ms (λ y is seen w. (rw (seen_as item i.Start y h.0 seen, h.1), refl))
+    not_here (inr (inl h)) = by_first None ms (λ y is seen w. (rw (seen_as item i.End y h.0 seen, h.1), refl))
+    not_here (inr (inr h)) = by_first None ms (λ y is seen w. (rw (seen_as item i.Never y h seen).1, refl))
 
-    pub opens : (r : Option ℕ) (mid ns : List ℕ) → item ≡ i.Open → Tried others.rest.now l p ms r mid → Noted p ms r mid ns → Tried bytes l p ms r ns
-    opens r mid ns same tried push = by_first item others reads r ns (λ y is h w.
-        subst (λ z. Ends (leading (z ∷ is)) p (run l (leading (z ∷ is)) p) ms r ns) (sym (seen_as item i.Open y same h))
-        (on_bracket p ms g.opens (leading is) (run l (leading is) p) r mid ns refl (tried is w) push))
-
-    pub closes : (r : Option ℕ) (mid ns : List ℕ) → item ≡ i.Close → Tried others.rest.now l p ms r mid → Noted p ms r mid ns → Tried bytes l p ms r ns
-    closes r mid ns same tried push = by_first item others reads r ns (λ y is h w.
-        subst (λ z. Ends (leading (z ∷ is)) p (run l (leading (z ∷ is)) p) ms r ns) (sym (seen_as item i.Close y same h))
-        (on_bracket p ms g.closes (leading is) (run l (leading is) p) r mid ns refl (tried is w) push))
+    -- a bracket
+    pub noted : (r : Option ℕ) (mid ns : List ℕ) → (item ≡ i.Open) ⊎ (item ≡ i.Close) → Tried others at ms r mid → Noted at.place ms r mid ns → Tried items at ms r ns
+    noted r mid ns (inl same) tried push = by_first r ns (λ y is h w.
+        rw (seen_as item i.Open y same h) (on_bracket at.place ms g.opens (leading is) (run at.line.now (leading is) at.place) r mid ns refl (tried is w) push))
+    noted r mid ns (inr same) tried push = by_first r ns (λ y is h w.
+        rw (seen_as item i.Close y same h) (on_bracket at.place ms g.closes (leading is) (run at.line.now (leading is) at.place) r mid ns refl (tried is w) push))
 
 -- ===== the repeats
-module _ (t : Piece) (bytes l : List ℕ) (p : ℕ) (ms : List ℕ) where
+module _ (t : Piece) (items : Items) (at : Cursor) (ms : List ℕ) where
   abbrev on : List g.Item → ℕ → Option Way
-  on js q = from q (run l js q)
+  on js q = from q (run at.line.now js q)
 
-  step_is : (o : Option Cursor) (x : g.Piece) → Steps t l p o → IsPiece t x → step l x p ≡ place_of o
+  step_is : (o : Option Cursor) (x : g.Piece) → Steps t at.line.now at.place o → IsPiece t x → step at.line.now x at.place ≡ place_of o
   step_is o x steps piece = sym (steps x piece)
 
   -- after a step to q
-  module _ (q : Cursor) (steps : Steps t l p (Some q)) (same : q.line.now ≡ l) where
-    after : (r : Option ℕ) (ms ns : List ℕ) → Tried bytes q.line.now q.place ms r ns → Tried bytes l q.place ms r ns
-    after r ms ns = subst (λ k. Tried bytes k q.place ms r ns) same
+  module _ (q : Cursor) (steps : Steps t at.line.now at.place (Some q)) (same : q.line.now ≡ at.line.now) where
+    after : (js : List g.Item) (ms : List ℕ) (r : Option ℕ) (ns : List ℕ) → EndsAt q js ms r ns → Ends js q.place (run at.line.now js q.place) ms r ns
+    after js ms r ns h = rw same at h
 
-    after_most : (r : Option ℕ) (ms ns : List ℕ) → TriedMost t bytes q.line.now q.place ms r ns → TriedMost t bytes l q.place ms r ns
-    after_most r ms ns = subst (λ k. TriedMost t bytes k q.place ms r ns) same
-
-    pub once_on : (times : Times) (r : Option ℕ) (ns : List ℕ) → times ≡ u.Once → Tried bytes q.line.now q.place ms r ns → TriedTimes t times bytes l p ms r ns
+    pub once_on : (times : Times) (r : Option ℕ) (ns : List ℕ) → times ≡ u.Once → Tried items q ms r ns → TriedTimes t times items at ms r ns
     once_on times r ns is tried x v js piece read w =
         rw (seen_times_as times u.Once v is read, step_is (Some q) x steps piece)
-        (on_item p ms (g.takes x g.once) (leading js) q.place (run l (leading js) q.place) r ns refl (after r ms ns tried js w))
+        (on_item at.place ms (g.takes x g.once) (leading js) q.place (run at.line.now (leading js) q.place) r ns refl (after (leading js) ms r ns (tried js w)))
 
-    pub some_on : (times : Times) (r : Option ℕ) (ns : List ℕ) → times ≡ u.Some → TriedMost t bytes q.line.now q.place ms r ns → TriedTimes t times bytes l p ms r ns
+    pub some_on : (times : Times) (r : Option ℕ) (ns : List ℕ) → times ≡ u.Some → TriedMost t items q ms r ns → TriedTimes t times items at ms r ns
     some_on times r ns is tried x v js piece read w =
         rw (seen_times_as times u.Some v is read, step_is (Some q) x steps piece)
-        (earlier p ms l x g.some (leading js) q.place r ns (after_most r ms ns tried x js piece w))
+        (earlier at.place ms at.line.now x g.some (leading js) q.place r ns (after (g.takes x g.many ∷ leading js) ms r ns (tried x js piece w)))
 
-    pub maybe_first : (times : Times) (e : ℕ) (ns : List ℕ) → times ≡ u.Maybe → Tried bytes q.line.now q.place ms (Some e) ns → TriedTimes t times bytes l p ms (Some e) ns
+    pub maybe_first : (times : Times) (e : ℕ) (ns : List ℕ) → times ≡ u.Maybe → Tried items q ms (Some e) ns → TriedTimes t times items at ms (Some e) ns
     maybe_first times e ns is tried x v js piece read w =
         rw (seen_times_as times u.Maybe v is read, step_is (Some q) x steps piece)
-        (tried_once p ms (g.takes x g.maybe ∷ leading js) (on (leading js) q.place) (on (leading js) p) e ns
-        (on_item p ms (g.takes x g.maybe) (leading js) q.place (run l (leading js) q.place) (Some e) ns refl (after (Some e) ms ns tried js w)))
+        (tried_once at.place ms (g.takes x g.maybe ∷ leading js) (on (leading js) q.place) (on (leading js) at.place) e ns
+        (on_item at.place ms (g.takes x g.maybe) (leading js) q.place (run at.line.now (leading js) q.place) (Some e) ns refl (after (leading js) ms (Some e) ns (tried js w))))
 
-    pub maybe_again : (times : Times) (mid : List ℕ) (r : Option ℕ) (ns : List ℕ) → times ≡ u.Maybe → Tried bytes q.line.now q.place ms None mid → Tried bytes l p mid r ns → TriedTimes t times bytes l p ms r ns
+    pub maybe_again : (times : Times) (mid : List ℕ) (r : Option ℕ) (ns : List ℕ) → times ≡ u.Maybe → Tried items q ms None mid → Tried items at mid r ns → TriedTimes t times items at ms r ns
     maybe_again times mid r ns is tried again x v js piece read w =
         rw (seen_times_as times u.Maybe v is read, step_is (Some q) x steps piece)
-        (tried_again p ms (g.takes x g.maybe ∷ leading js) (on (leading js) q.place) (on (leading js) p) mid ns r
-        (on_item p ms (g.takes x g.maybe) (leading js) q.place (run l (leading js) q.place) None mid refl (after None ms mid tried js w))
-        (on_item p mid (g.takes x g.maybe) (leading js) p (run l (leading js) p) r ns refl (again js w)))
+        (tried_again at.place ms (g.takes x g.maybe ∷ leading js) (on (leading js) q.place) (on (leading js) at.place) mid ns r
+        (on_item at.place ms (g.takes x g.maybe) (leading js) q.place (run at.line.now (leading js) q.place) None mid refl (after (leading js) ms None mid (tried js w)))
+        (on_item at.place mid (g.takes x g.maybe) (leading js) at.place (run at.line.now (leading js) at.place) r ns refl (again js w)))
 
-    pub most_first : (e : ℕ) (ns : List ℕ) → TriedMost t bytes q.line.now q.place ms (Some e) ns → TriedMost t bytes l p ms (Some e) ns
+    pub most_first : (e : ℕ) (ns : List ℕ) → TriedMost t items q ms (Some e) ns → TriedMost t items at ms (Some e) ns
     most_first e ns tried x js piece w =
-        rw (most_unfolds l x (on (leading js)) p, step_is (Some q) x steps piece)
-        (tried_once p ms (g.takes x g.many ∷ leading js) (run l (g.takes x g.many ∷ leading js) q.place) (on (leading js) p) e ns
-        (earlier p ms l x g.many (leading js) q.place (Some e) ns (after_most (Some e) ms ns tried x js piece w)))
+        rw (most_unfolds at.line.now x (on (leading js)) at.place, step_is (Some q) x steps piece)
+        (tried_once at.place ms (g.takes x g.many ∷ leading js) (run at.line.now (g.takes x g.many ∷ leading js) q.place) (on (leading js) at.place) e ns
+        (earlier at.place ms at.line.now x g.many (leading js) q.place (Some e) ns (after (g.takes x g.many ∷ leading js) ms (Some e) ns (tried x js piece w))))
 
-    pub most_again : (mid : List ℕ) (r : Option ℕ) (ns : List ℕ) → TriedMost t bytes q.line.now q.place ms None mid → Tried bytes l p mid r ns → TriedMost t bytes l p ms r ns
+    pub most_again : (mid : List ℕ) (r : Option ℕ) (ns : List ℕ) → TriedMost t items q ms None mid → Tried items at mid r ns → TriedMost t items at ms r ns
     most_again mid r ns tried again x js piece w =
-        rw (most_unfolds l x (on (leading js)) p, step_is (Some q) x steps piece)
-        (tried_again p ms (g.takes x g.many ∷ leading js) (run l (g.takes x g.many ∷ leading js) q.place) (on (leading js) p) mid ns r
-        (earlier p ms l x g.many (leading js) q.place None mid (after_most None ms mid tried x js piece w))
-        (on_item p mid (g.takes x g.many) (leading js) p (run l (leading js) p) r ns refl (again js w)))
+        rw (most_unfolds at.line.now x (on (leading js)) at.place, step_is (Some q) x steps piece)
+        (tried_again at.place ms (g.takes x g.many ∷ leading js) (run at.line.now (g.takes x g.many ∷ leading js) q.place) (on (leading js) at.place) mid ns r
+        (earlier at.place ms at.line.now x g.many (leading js) q.place None mid (after (g.takes x g.many ∷ leading js) ms None mid (tried x js piece w)))
+        (on_item at.place mid (g.takes x g.many) (leading js) at.place (run at.line.now (leading js) at.place) r ns refl (again js w)))
 
   -- the piece does not take what is there
-  module _ (steps : Steps t l p None) where
-    pub once_none : (times : Times) → times ≡ u.Once → TriedTimes t times bytes l p ms None ms
-    once_none times is x v js piece read w =
-        (rw (seen_times_as times u.Once v is read, step_is None x steps piece), refl)
-
-    pub some_none : (times : Times) → times ≡ u.Some → TriedTimes t times bytes l p ms None ms
-    some_none times is x v js piece read w =
-        (rw (seen_times_as times u.Some v is read, step_is None x steps piece), refl)
-
-    pub maybe_none : (times : Times) (r : Option ℕ) (ns : List ℕ) → times ≡ u.Maybe → Tried bytes l p ms r ns → TriedTimes t times bytes l p ms r ns
+  module _ (steps : Steps t at.line.now at.place None) where
+    pub maybe_none : (times : Times) (r : Option ℕ) (ns : List ℕ) → times ≡ u.Maybe → Tried items at ms r ns → TriedTimes t times items at ms r ns
     maybe_none times r ns is tried x v js piece read w =
         rw (seen_times_as times u.Maybe v is read, step_is None x steps piece)
-        (on_item p ms (g.takes x g.maybe) (leading js) p (run l (leading js) p) r ns refl (tried js w))
+        (on_item at.place ms (g.takes x g.maybe) (leading js) at.place (run at.line.now (leading js) at.place) r ns refl (tried js w))
 
-    pub most_none : (r : Option ℕ) (ns : List ℕ) → Tried bytes l p ms r ns → TriedMost t bytes l p ms r ns
+    pub most_none : (r : Option ℕ) (ns : List ℕ) → Tried items at ms r ns → TriedMost t items at ms r ns
     most_none r ns tried x js piece w =
-        rw (most_unfolds l x (on (leading js)) p, step_is None x steps piece)
-        (on_item p ms (g.takes x g.many) (leading js) p (run l (leading js) p) r ns refl (tried js w))
+        rw (most_unfolds at.line.now x (on (leading js)) at.place, step_is None x steps piece)
+        (on_item at.place ms (g.takes x g.many) (leading js) at.place (run at.line.now (leading js) at.place) r ns refl (tried js w))
 
-  pub many_on : (times : Times) (r : Option ℕ) (ns : List ℕ) → times ≡ u.Many → TriedMost t bytes l p ms r ns → TriedTimes t times bytes l p ms r ns
+  pub many_on : (times : Times) (r : Option ℕ) (ns : List ℕ) → times ≡ u.Many → TriedMost t items at ms r ns → TriedTimes t times items at ms r ns
   many_on times r ns is tried x v js piece read w = rw (seen_times_as times u.Many v is read) (tried x js piece w)
 
 -- ===== the match of an alternative
-module _ (e l : List ℕ) (p : ℕ) (s : Start) (is : List g.Item) (begins : Begins e s is) where
+module _ (e : List ℕ) (s : Start) (at : Cursor) (is : List g.Item) (begins : Begins e s is) where
   begin_written : Written s.items.rest.now is
   begin_written = record { opened = s.opened; depth = 0; good = begins.good; written = begins.written }
 
-  pub none_found : (ms ns : List ℕ) → Tried s.items.rest.now l p ms None ns → run l (leading is) p ≡ None
+  pub none_found : (ms ns : List ℕ) → Tried s.items at ms None ns → run at.line.now (leading is) at.place ≡ None
   none_found ms ns tried = (tried is begin_written).0
 
   -- with its brackets, those that were noted the other way round
-  pub found : (ms ns : List ℕ) (q : ℕ) → ms ≡ [] → Tried s.items.rest.now l p ms (Some q) ns
-      → (w : Way) × (run l (leading is) p ≡ Some w) × (end_of p w ≡ q) × (length (brackets (leading is) w) ≤ 30 → reverse ns ≡ brackets (leading is) w)
+  pub found : (ms ns : List ℕ) (q : ℕ) → ms ≡ [] → Tried s.items at ms (Some q) ns
+      → (w : Way) × (run at.line.now (leading is) at.place ≡ Some w) × (end_of at.place w ≡ q) × (length (brackets (leading is) w) ≤ 30 → reverse ns ≡ brackets (leading is) w)
   found ms ns q empty tried =
-      let h : Ends (leading is) p (run l (leading is) p) [] (Some q) ns = subst (λ ks. Ends (leading is) p (run l (leading is) p) ks (Some q) ns) empty (tried is begin_written) in
+      let h : EndsAt at (leading is) [] (Some q) ns = rw empty at (tried is begin_written) in
       (h.0, h.1, h.2, λ fits. ap reverse (h.3 (omega arith)) ∙ reverse-reverse (brackets (leading is) h.0))
 
 -- a list that was written over by as many

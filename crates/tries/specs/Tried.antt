@@ -2,8 +2,10 @@
 use Rattle.std.specs.Prelude.{◌≡◌, ℕ, ◌+◌, ◌≤◌, List, ◌∷◌, ◌++◌, length, reverse, Some, None, Option}
 use Rattle.grammar.specs.declared.items.Piece.{Piece}
 use Rattle.grammar.specs.declared.items.Times.{Times}
+use Rattle.grammar.specs.declared.items.Items.{Items}
 use Rattle.grammar.specs.Grammar as g
 use Rattle.grammar.specs.Items.{IsPiece, times_of, Written}
+use Rattle.ways.specs.declared.cursor.Cursor.{Cursor}
 use Rattle.ways.specs.Match.{Way, run}
 use Rattle.ways.specs.Meaning.{leading, end_of}
 use Rattle.ways.specs.Matched.{brackets}
@@ -14,18 +16,20 @@ abbrev pub Ends : List g.Item → ℕ → Option Way → List ℕ → Option ℕ
 Ends js p o ms None ns = (o ≡ None) × (ns ≡ ms)
 Ends js p o ms (Some q) ns = (w : Way) × (o ≡ Some w) × (end_of p w ≡ q) × (length ms + length (brackets js w) ≤ 30 → ns ≡ ms ++ reverse (brackets js w))
 
--- of the items that are written, up to the next bar
-abbrev pub Tried : List ℕ → List ℕ → ℕ → List ℕ → Option ℕ → List ℕ → Type 0
-Tried bytes l p ms r ns = (is : List g.Item) → Written bytes is → Ends (leading is) p (run l (leading is) p) ms r ns
+-- where they end from a place of a line on
+abbrev pub EndsAt : Cursor → List g.Item → List ℕ → Option ℕ → List ℕ → Type 0
+EndsAt from js = Ends js from.place (run from.line.now js from.place)
 
--- of a piece, as often as it is written, and the items behind it
-abbrev pub TriedTimes : Piece → Times → List ℕ → List ℕ → ℕ → List ℕ → Option ℕ → List ℕ → Type 0
-TriedTimes t times bytes l p ms r ns =
-    (x : g.Piece) (u : g.Times) (is : List g.Item) → IsPiece t x → times ≡ times_of u → Written bytes is
-    → Ends (g.takes x u ∷ leading is) p (run l (g.takes x u ∷ leading is) p) ms r ns
+-- the items that are left, up to the next bar
+abbrev pub Tried : Items → Cursor → List ℕ → Option ℕ → List ℕ → Type 0
+Tried items from ms r ns = (is : List g.Item) → Written items.rest.now is → EndsAt from (leading is) ms r ns
 
--- of a piece, as often as can be, and the items behind it
-abbrev pub TriedMost : Piece → List ℕ → List ℕ → ℕ → List ℕ → Option ℕ → List ℕ → Type 0
-TriedMost t bytes l p ms r ns =
-    (x : g.Piece) (is : List g.Item) → IsPiece t x → Written bytes is
-    → Ends (g.takes x g.many ∷ leading is) p (run l (g.takes x g.many ∷ leading is) p) ms r ns
+-- a piece, as often as it is written, and the items behind it
+abbrev pub TriedTimes : Piece → Times → Items → Cursor → List ℕ → Option ℕ → List ℕ → Type 0
+TriedTimes t times items from ms r ns =
+    (x : g.Piece) (u : g.Times) (is : List g.Item) → IsPiece t x → times ≡ times_of u → Written items.rest.now is
+    → EndsAt from (g.takes x u ∷ leading is) ms r ns
+
+-- a piece, as often as can be, and the items behind it
+abbrev pub TriedMost : Piece → Items → Cursor → List ℕ → Option ℕ → List ℕ → Type 0
+TriedMost t items from ms r ns = (x : g.Piece) (is : List g.Item) → IsPiece t x → Written items.rest.now is → EndsAt from (g.takes x g.many ∷ leading is) ms r ns

@@ -42,7 +42,7 @@ impl<L: Limit> Tries<L> {
         from: &Cursor<'_>,
         depth: usize,
     ) -> Result<Option<usize>, L::Stop>
-        ensures { IfOk result (λ r. Tried items.now.rest.now from.now.line.now from.now.place self.old.brackets.items r self.new.brackets.items) }
+        ensures { IfOk result (λ r. Tried items.now from.now self.old.brackets.items r self.new.brackets.items) }
     {
         let Some((item, items)) = items.split_first() else {
             return Ok(Some(from.place));
@@ -75,7 +75,7 @@ impl<L: Limit> Tries<L> {
         from: &Cursor<'_>,
         depth: usize,
     ) -> Result<Option<usize>, L::Stop>
-        ensures { IfOk result (λ r. TriedTimes piece.now times items.now.rest.now from.now.line.now from.now.place self.old.brackets.items r self.new.brackets.items) }
+        ensures { IfOk result (λ r. TriedTimes piece.now times items.now from.now self.old.brackets.items r self.new.brackets.items) }
     {
         match (times, from.step(piece)) {
             (Times::Once, Some(next)) => self.run(items, &next, depth),
@@ -99,7 +99,7 @@ impl<L: Limit> Tries<L> {
         from: &Cursor<'_>,
         depth: usize,
     ) -> Result<Option<usize>, L::Stop>
-        ensures { IfOk result (λ r. TriedMost piece.now items.now.rest.now from.now.line.now from.now.place self.old.brackets.items r self.new.brackets.items) }
+        ensures { IfOk result (λ r. TriedMost piece.now items.now from.now self.old.brackets.items r self.new.brackets.items) }
     {
         let depth = self.limit.deeper(depth)?;
         if let Some(next) = from.step(piece) {
