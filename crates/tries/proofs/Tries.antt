@@ -1,24 +1,28 @@
 -- What the tries of an alternative come to, one item on. Assumes nothing.
-use Rattle.std.proofs.Common.{◌≡◌, ℕ, zero, suc, ◌+◌, ◌-◌, ◌*◌, ◌<◌, ◌≤◌, Bool, true, false, cond, eqb, List, [], ◌∷◌, length, get_or, Some, None, Option, sym, refl, ap, ◌∙◌, subst, ⊎_elim, add-zero, mul-le-mul_right, suc-mul, arith}
+use Rattle.std.proofs.Common.{◌≡◌, ℕ, Result, Ok, Err, OnOk, OnErr, zero, suc, ◌+◌, ◌-◌, ◌<◌, ◌≤◌, true, false, eqb, ◌⊎◌, inl, inr, List, [], ◌∷◌, ◌++◌, length, take, drop, Some, None, Option, sym, refl, ap, ◌∙◌, append_assoc, length-append, arith}
+use Rattle.std.specs.Prelude.{reverse, is_some}
+use Rattle.std.proofs.lemmas.List.{append-nil, length-reverse, reverse-reverse}
+use Rattle.std.proofs.lemmas.Grind.{reverse_onto, common_steps}
 use Rattle.grammar.specs.declared.items.Piece.{Piece}
 use Rattle.grammar.specs.declared.items.Times.{Times}
 use Rattle.grammar.specs.declared.items.Times.TheVariants as u
 use Rattle.grammar.specs.declared.items.Item.{Item}
-use Rattle.grammar.specs.declared.items.Item.TheVariants as tok
+use Rattle.grammar.specs.declared.items.Item.TheVariants as i
+use Rattle.grammar.specs.declared.items.Items.{Items}
 use Rattle.grammar.specs.Grammar as g
-use Rattle.grammar.specs.Items.{Reads}
-use Rattle.tries.specs.declared.run.Limit.{Limit}
-use Rattle.tries.specs.declared.run.Limit.TheVariants.{Unlimited}
-use Rattle.tries.specs.declared.run.Outcome.{Outcome}
-use Rattle.tries.specs.declared.run.Outcome.TheVariants.{Matched, Failed, Exhausted}
-use Rattle.ways.specs.Match.{Way, step, at_end, then, else, when, from, most, run}
-use Rattle.ways.specs.Meaning.{is_bar, leading, end_of}
-use Rattle.ways.specs.Pieces.{PieceAt, Steps}
-use Rattle.tries.specs.Tried.{is_bracket, brackets, Marked, Below, Noted, Ran, Result, Tried, TriedTimes, TriedMost}
+use Rattle.grammar.specs.Items.{IsPiece, IsItem, Written, Reads}
+use Rattle.ways.specs.Match.{Way, step, at_end, then, else, from, most, run}
+use Rattle.ways.specs.Meaning.{leading, end_of}
+use Rattle.ways.specs.Matched.{is_bracket, brackets}
+use Rattle.ways.specs.Pieces.{Steps, place_of}
 use Rattle.ways.proofs.Prefers.{step_on, step_within}
-use Rattle.ways.proofs.Reading.{none_written, First, first, seen_as, seen_times_as}
+use Rattle.ways.proofs.Reading.{none_written, seen_as, seen_times_as}
+use Rattle.ways.specs.declared.cursor.Cursor.{Cursor}
+use Rattle.ways.specs.declared.start.Start.{Start}
+use Rattle.ways.specs.Starts.{Begins}
+use Rattle.tries.specs.Tried.{Ends, EndsAt, Tried, TriedTimes, TriedMost}
 
--- ===== fuel
+-- ===== as many steps as there can be: no more than what is left of the line
 module _ (l : List ℕ) (x : g.Piece) (k : ℕ → Option Way) where
   fuel_at : (n m p : ℕ) (o : Option ℕ) → step l x p ≡ o → length l - p ≤ suc n → length l - p ≤ suc m
       → ((q : ℕ) → length l - q ≤ n → length l - q ≤ m → most (step l x) k n q ≡ most (step l x) k m q)
@@ -42,318 +46,220 @@ module _ (l : List ℕ) (x : g.Piece) (k : ℕ → Option Way) where
   fuel (suc n) zero p a b = sym (none_left (suc n) p (omega arith))
   fuel (suc n) (suc m) p a b = fuel_at n m p (step l x p) refl a b (fuel n m)
 
-  unfold_at : (n p : ℕ) → length l ≤ n → (o : Option ℕ) → step l x p ≡ o → most (step l x) k n p ≡ else (then o (most (step l x) k n)) (k p)
-  unfold_at zero p le o e = at o e
-    where
-      at : (o : Option ℕ) → step l x p ≡ o → k p ≡ else (then o (most (step l x) k 0)) (k p)
-      at None f = refl
-      at (Some q) f = let in' = step_within l x p q f in absurd (omega arith)
-  unfold_at (suc n) p le o e = ap (λ y. else (then y (most (step l x) k n)) (k p)) e ∙ at o e
-    where
-      at : (o : Option ℕ) → step l x p ≡ o → else (then o (most (step l x) k n)) (k p) ≡ else (then o (most (step l x) k (suc n))) (k p)
-      at None f = refl
-      at (Some q) f =
-          let on = step_on l x p q f in
-          let in' = step_within l x p q f in
-          ap (λ w. else w (k p)) (fuel n (suc n) q (omega arith) (omega arith))
+  -- one and as many more, or none
+  pub most_unfolds : (p : ℕ) → most (step l x) k (length l) p ≡ else (then (step l x p) (most (step l x) k (length l))) (k p)
+  most_unfolds p = fuel (length l) (suc (length l)) p (omega arith) (omega arith)
 
-  -- as many as can be: one and as many more, or none
-  pub most_unfolds : (p : ℕ) (o : Option ℕ) → step l x p ≡ o → most (step l x) k (length l) p ≡ else (then o (most (step l x) k (length l))) (k p)
-  most_unfolds p o e = unfold_at (length l) p (omega arith) o e
+-- ===== a way of as many as can be begins with where they end
+from_filled : (q : ℕ) (o : Option Way) → from q o ≡ Some [] → ⊥
+from_filled q None h = cc
+from_filled q (Some w) h = cc
 
--- ===== results, one item on
-pub below_same : (m : ℕ) (ms : List ℕ) → Below m ms ms
-below_same m ms = (refl, λ k h. refl)
+then_filled : (o : Option ℕ) (k : ℕ → Option Way) → ((q : ℕ) → k q ≡ Some [] → ⊥) → then o k ≡ Some [] → ⊥
+then_filled None k more h = cc
+then_filled (Some q) k more h = more q h
 
-pub below_then : (m : ℕ) (ms ns os : List ℕ) → Below m ms ns → Below m ns os → Below m ms os
-below_then m ms ns os a b = (a.0 ∙ b.0, λ k h. b.1 k h ∙ a.1 k h)
+else_filled : (a b : Option Way) → (a ≡ Some [] → ⊥) → (b ≡ Some [] → ⊥) → else a b ≡ Some [] → ⊥
+else_filled None b f g h = g h
+else_filled (Some w) b f g h = f h
 
-module _ (p m : ℕ) (limit : Limit) (ms : List ℕ) where
-  pub relimit : {js : List g.Item} {r : Outcome} {ns : List ℕ} {o : Option Way} (inner : Limit) → (limit ≡ Unlimited → inner ≡ Unlimited) → Result js p m inner ms r ns o → Result js p m limit ms r ns o
-  relimit inner to h = record { ran = h.ran; below = h.below; free = λ e f. h.free (to e) f }
+most_filled : (s : ℕ → Option ℕ) (k : ℕ → Option Way) (n p : ℕ) → most s (λ q. from q (k q)) n p ≡ Some [] → ⊥
+most_filled s k zero p h = from_filled p (k p) h
+most_filled s k (suc n) p h =
+    else_filled (then (s p) (most s (λ q. from q (k q)) n)) (from p (k p))
+    (then_filled (s p) (most s (λ q. from q (k q)) n) (most_filled s k n)) (from_filled p (k p)) h
 
+-- ===== where items end, one item on
+module _ (p : ℕ) (ms : List ℕ) where
   -- nothing is left to match
-  pub at_leaf : Result [] p m limit ms (Matched p) ms (Some [])
-  at_leaf = record { ran = ([], refl, refl, λ k h w. absurd (omega arith)); below = below_same m ms; free = λ e f. let z : ◌≡◌ {A = ℕ} 0 1 = cc in omega arith }
-
-  pub failed : (js : List g.Item) (o : Option Way) → o ≡ None → Result js p m limit ms Failed ms o
-  failed js o e = record { ran = e; below = below_same m ms; free = λ a f. let z : ◌≡◌ {A = ℕ} 0 1 = cc in omega arith }
-
-  pub exhausted : (js : List g.Item) (o : Option Way) → (limit ≡ Unlimited → ⊥) → Result js p m limit ms Exhausted ms o
-  exhausted js o e = record { ran = tt; below = below_same m ms; free = λ a f. e a }
+  pub leaf : Ends [] p (Some []) ms (Some p) ms
+  leaf = ([], refl, refl, λ fits. sym (append-nil ms))
 
   -- an item that is no bracket ends at q
-  ran_on : (x : g.Item) (js : List g.Item) (q : ℕ) (ns : List ℕ) → is_bracket x ≡ false → (r : Outcome) (o : Option Way) → Ran js q m ns r o → Ran (x ∷ js) p m ns r (from q o)
-  ran_on x js q ns plain (Matched e) o h =
-      (q ∷ h.0, ap (from q) h.1, h.2, subst (λ ps. Marked m ps ns) (sym (ap (λ t. cond t (q ∷ brackets js h.0) (brackets js h.0)) plain)) h.3)
-  ran_on x js q ns plain Failed o h = ap (from q) h
-  ran_on x js q ns plain Exhausted o h = tt
+  pub on_item : (x : g.Item) (js : List g.Item) (q : ℕ) (o : Option Way) (r : Option ℕ) (ns : List ℕ) → is_bracket x ≡ false → Ends js q o ms r ns → Ends (x ∷ js) p (from q o) ms r ns
+  on_item x js q o None ns plain h = (ap (from q) h.0, h.1)
+  on_item x js q o (Some e) ns plain h = (q ∷ h.0, ap (from q) h.1, h.2, rw plain h.3)
 
-  pub on_item : (x : g.Item) (js : List g.Item) (q : ℕ) (ns : List ℕ) (r : Outcome) (o : Option Way) → is_bracket x ≡ false → Result js q m limit ms r ns o → Result (x ∷ js) p m limit ms r ns (from q o)
-  on_item x js q ns r o plain h = record { ran = ran_on x js q ns plain r o h.ran; below = h.below; free = h.free }
+  behind : (bs mid : List ℕ) → mid ≡ ms ++ reverse bs → mid ++ p ∷ [] ≡ ms ++ reverse (p ∷ bs)
+  behind bs mid e = ap (λ ns. ns ++ p ∷ []) e ∙ append_assoc ms (reverse bs) (p ∷ []) ∙ ap (λ ns. ms ++ ns) (sym (reverse_onto bs p []))
+
+  room : (bs mid : List ℕ) → mid ≡ ms ++ reverse bs → length ms + length (p ∷ bs) ≤ 30 → length mid < 30
+  room bs mid e fits =
+      let l : length mid ≡ length ms + length bs = ap length e ∙ length-append ms (reverse bs) ∙ ap (λ n. length ms + n) (length-reverse bs) in
+      omega arith
+
+  -- a bracket; where the items behind it match, its place is noted behind theirs
+  abbrev pub Noted : Option ℕ → List ℕ → List ℕ → Type 0
+  Noted None mid ns = ns ≡ mid
+  Noted (Some e) mid ns = length mid < 30 → ns ≡ mid ++ p ∷ []
+
+  pub on_bracket : (x : g.Item) (js : List g.Item) (o : Option Way) (r : Option ℕ) (mid ns : List ℕ) → is_bracket x ≡ true
+      → Ends js p o ms r mid → Noted r mid ns → Ends (x ∷ js) p (from p o) ms r ns
+  on_bracket x js o None mid ns bracket h same = (ap (from p) h.0, same ∙ h.1)
+  on_bracket x js o (Some e) mid ns bracket h pushed = (
+    p ∷ h.0,
+    ap (from p) h.1,
+    h.2,
+    rw bracket (λ fits.
+        let before : mid ≡ ms ++ reverse (brackets js h.0) = h.3 (omega arith) in
+        pushed (room (brackets js h.0) mid before fits) ∙ behind (brackets js h.0) mid before),
+  )
 
   -- what was tried first failed, and another try follows
-  pub tried_again : (js : List g.Item) (mid ns : List ℕ) (r : Outcome) (a b : Option Way) → Result js p m limit ms Failed mid a → Result js p m limit mid r ns b → Result js p m limit ms r ns (else a b)
-  tried_again js mid ns r a b h k =
-      subst (λ o. Result js p m limit ms r ns (else o b)) (sym h.ran) (record { ran = k.ran; below = below_then m ms mid ns h.below k.below; free = k.free })
+  pub tried_again : (js : List g.Item) (a b : Option Way) (mid ns : List ℕ) (r : Option ℕ) → Ends js p a ms None mid → Ends js p b mid r ns → Ends js p (else a b) ms r ns
+  tried_again js a b mid ns r h k = rw h.0 (rw h.1 at k)
 
   -- what was tried first did not fail
-  pub tried_once : (js : List g.Item) (ns : List ℕ) (r : Outcome) (a b : Option Way) → (r ≡ Failed → ⊥) → Result js p m limit ms r ns a → Result js p m limit ms r ns (else a b)
-  tried_once js ns (Matched e) a b n h = record { ran = (h.ran.0, ap (λ o. else o b) h.ran.1, h.ran.2, h.ran.3); below = h.below; free = h.free }
-  tried_once js ns Failed a b n h = absurd (n refl)
-  tried_once js ns Exhausted a b n h = record { ran = tt; below = h.below; free = h.free }
+  pub tried_once : (js : List g.Item) (a b : Option Way) (e : ℕ) (ns : List ℕ) → Ends js p a ms (Some e) ns → Ends js p (else a b) ms (Some e) ns
+  tried_once js a b e ns h = (h.0, ap (λ o. else o b) h.1, h.2, h.3)
 
-  -- a bracket at p
-  module _ (x : g.Item) (js : List g.Item) (bracket : is_bracket x ≡ true) (mid ns : List ℕ) (n : ℕ) (noted : Noted ms m p mid n) where
-    mark_first : Below n mid ns → m < length ns → n ≡ suc m → get_or ns m 0 ≡ p
-    mark_first b lt next = b.1 m (omega arith) ∙ noted.here (omega (arith, b.0))
+  -- a way with a place to it from q on is also one from an earlier place, however often the piece is taken
+  earlier_by : (x : g.Piece) (v w : g.Times) (js : List g.Item) (q : ℕ) (o : Option Way) (r : Option ℕ) (ns : List ℕ) → (o ≡ Some [] → ⊥)
+      → Ends (g.takes x w ∷ js) q o ms r ns → Ends (g.takes x v ∷ js) p o ms r ns
+  earlier_by x v w js q o None ns filled h = h
+  earlier_by x v w js q o (Some e) ns filled h = at h.0 h.1 h.2 h.3
+    where
+      at : (way : Way) → o ≡ Some way → end_of q way ≡ e
+          → (length ms + length (brackets (g.takes x w ∷ js) way) ≤ 30 → ns ≡ ms ++ reverse (brackets (g.takes x w ∷ js) way)) → Ends (g.takes x v ∷ js) p o ms (Some e) ns
+      at [] is ended noted = absurd (filled is)
+      at (a ∷ way) is ended noted = (a ∷ way, is, ended, noted)
 
-    marked : (ps : List ℕ) → Below n mid ns → Marked n ps ns → Marked m (p ∷ ps) ns
-    marked ps b h zero lt within =
-        ⊎_elim (λ next. ap (λ (j : ℕ). get_or ns j 0) (add-zero m) ∙ mark_first b (omega arith) next) (λ full. absurd (omega (arith, b.0, noted.below.0))) noted.next
-    marked ps b h (suc k) lt within =
-        ⊎_elim
-        (λ next. let same : m + suc k ≡ n + k = omega arith in ap (λ (j : ℕ). get_or ns j 0) same ∙ h k (omega arith) (omega arith))
-        (λ full. absurd (omega (arith, b.0, noted.below.0))) noted.next
+  pub earlier : (l : List ℕ) (x : g.Piece) (v : g.Times) (js : List g.Item) (q : ℕ) (r : Option ℕ) (ns : List ℕ)
+      → Ends (g.takes x g.many ∷ js) q (run l (g.takes x g.many ∷ js) q) ms r ns → Ends (g.takes x v ∷ js) p (run l (g.takes x g.many ∷ js) q) ms r ns
+  earlier l x v js q r ns h =
+      earlier_by x v g.many js q (run l (g.takes x g.many ∷ js) q) r ns (most_filled (step l x) (run l js) (length l) q) h
 
-    ran_bracket : Below n mid ns → (r : Outcome) (o : Option Way) → Ran js p n ns r o → Ran (x ∷ js) p m ns r (from p o)
-    ran_bracket b (Matched e) o h = (
-      p ∷ h.0,
-      ap (from p) h.1,
-      h.2,
-      subst (λ ps. Marked m ps ns) (sym (ap (λ t. cond t (p ∷ brackets js h.0) (brackets js h.0)) bracket)) (marked (brackets js h.0) b h.3),
-    )
-    ran_bracket b Failed o h = ap (from p) h
-    ran_bracket b Exhausted o h = tt
+-- a place is noted where the items behind it match
+pub noted_by : {T E : Type 0} (p : ℕ) (ms : List ℕ) (o : Option ℕ) (mid ns : List ℕ) (r : Result T E) → is_some o ≡ true
+    → OnOk r (ns ≡ mid ++ p ∷ []) → OnErr r (length mid ≡ 30) → Noted p ms o mid ns
+noted_by p ms None mid ns r some ok err = cc
+noted_by p ms (Some e) mid ns (Ok x) some ok err = λ fits. ok
+noted_by p ms (Some e) mid ns (Err x) some ok err = λ fits. absurd (omega arith)
 
-    pub on_bracket : (r : Outcome) (o : Option Way) → Result js p n limit mid r ns o → Result (x ∷ js) p m limit ms r ns (from p o)
-    on_bracket r o h = record {
-      ran = ran_bracket h.below r o h.ran;
-      below = (noted.below.0 ∙ h.below.0, λ k lt. h.below.1 k (omega (arith, noted.on)) ∙ noted.below.1 k lt);
-      free = h.free;
-    }
+pub not_noted : (p : ℕ) (ms : List ℕ) (o : Option ℕ) (mid ns : List ℕ) → is_some o ≡ false → ns ≡ mid → Noted p ms o mid ns
+not_noted p ms None mid ns none same = same
+not_noted p ms (Some e) mid ns none same = cc
 
--- a way of as many as can be begins with where that ends
-most_cons : (s : ℕ → Option ℕ) (k : ℕ → Option Way) (n p : ℕ) (w : Way) → most s (λ q. from q (k q)) n p ≡ Some w → (q : ℕ) × (v : Way) × (w ≡ q ∷ v)
-most_cons s k zero p w h = at (k p) h
-  where
-    at : (o : Option Way) → from p o ≡ Some w → (q : ℕ) × (v : Way) × (w ≡ q ∷ v)
-    at None e = let z : ◌≡◌ {A = ℕ} 0 1 = cc in absurd (omega arith)
-    at (Some v) e = let is : (p ∷ v) ≡ w = cc in (p, v, sym is)
-most_cons s k (suc n) p w h = at (s p) (λ q v f. most_cons s k n q v f) h
-  where
-    last : (o : Option Way) → from p o ≡ Some w → (q : ℕ) × (v : Way) × (w ≡ q ∷ v)
-    last None e = let z : ◌≡◌ {A = ℕ} 0 1 = cc in absurd (omega arith)
-    last (Some v) e = let is : (p ∷ v) ≡ w = cc in (p, v, sym is)
-
-    both : (a : Option Way) → ((v : Way) → a ≡ Some v → (q : ℕ) × (u : Way) × (v ≡ q ∷ u)) → else a (from p (k p)) ≡ Some w → (q : ℕ) × (v : Way) × (w ≡ q ∷ v)
-    both None f e = last (k p) e
-    both (Some v) f e = f w e
-
-    at : (o : Option ℕ) → ((q : ℕ) (v : Way) → most s (λ q. from q (k q)) n q ≡ Some v → (a : ℕ) × (u : Way) × (v ≡ a ∷ u)) → else (then o (most s (λ q. from q (k q)) n)) (from p (k p)) ≡ Some w → (q : ℕ) × (v : Way) × (w ≡ q ∷ v)
-    at None more e = last (k p) e
-    at (Some q) more e = both (most s (λ q. from q (k q)) n q) (more q) e
-
--- the way of a piece as often as can be from q on is also one from an earlier place, however often that may be
-module _ (x : g.Piece) (v : g.Times) (js : List g.Item) (l : List ℕ) (p q m : ℕ) (limit : Limit) (ms : List ℕ) (r : Outcome) (ns : List ℕ) where
-  shaped : (e : ℕ) (w : Way) → (a : ℕ) × (u : Way) × (w ≡ a ∷ u) → run l (g.takes x g.many ∷ js) q ≡ Some w → end_of q w ≡ e → Marked m (brackets (g.takes x g.many ∷ js) w) ns
-      → Ran (g.takes x v ∷ js) p m ns (Matched e) (run l (g.takes x g.many ∷ js) q)
-  shaped e w c f ended mk =
-      (c.0 ∷ c.1, f ∙ ap Some c.2, sym (ap (end_of q) c.2) ∙ ended, subst (λ u. Marked m (brackets (g.takes x g.many ∷ js) u) ns) c.2 mk)
-
-  ran_earlier : (r : Outcome) → Ran (g.takes x g.many ∷ js) q m ns r (run l (g.takes x g.many ∷ js) q) → Ran (g.takes x v ∷ js) p m ns r (run l (g.takes x g.many ∷ js) q)
-  ran_earlier (Matched e) k = shaped e k.0 (most_cons (step l x) (run l js) (length l) q k.0 k.1) k.1 k.2 k.3
-  ran_earlier Failed k = k
-  ran_earlier Exhausted k = tt
-
-  pub earlier : Result (g.takes x g.many ∷ js) q m limit ms r ns (run l (g.takes x g.many ∷ js) q) → Result (g.takes x v ∷ js) p m limit ms r ns (run l (g.takes x g.many ∷ js) q)
-  earlier h = record { ran = ran_earlier r h.ran; below = h.below; free = h.free }
-
--- ===== the needs of the tries
-module _ (e : List ℕ) (i : ℕ) (l : List ℕ) (p m : ℕ) (limit : Limit) (ms : List ℕ) where
+-- ===== the items
+module _ (items : Items) (at : Cursor) (ms : List ℕ) where
   -- nothing is left of the expression
-  pub ends : length e ≤ i → Tried e i l p m limit ms (Matched p) ms
-  ends le is h =
-      subst (λ js. Result (leading js) p m limit ms (Matched p) ms (run l (leading js) p)) (sym (none_written e i is le h)) (at_leaf p m limit ms)
+  pub ends : Reads items.rest.now None → Tried items at ms (Some at.place) ms
+  ends reads is w = rw (none_written items.rest.now reads is w) (leaf at.place ms)
 
-  pub spent : (limit ≡ Unlimited → ⊥) → Tried e i l p m limit ms Exhausted ms
-  spent free is h = exhausted p m limit ms (leading is) (run l (leading is) p) free
+  module _ (item : Item) (others : Items) (reads : Reads items.rest.now (Some (item, others))) where
+    -- by the first item, and the others
+    by_first : (r : Option ℕ) (ns : List ℕ) → ((y : g.Item) (is : List g.Item) → IsItem item y → Written others.rest.now is → EndsAt at (leading (y ∷ is)) ms r ns) → Tried items at ms r ns
+    by_first r ns go [] w = absurd (reads [] w)
+    by_first r ns go (y ∷ is) w = let h = reads (y ∷ is) w in go y is h.0 h.1
 
-  module _ (item : Item) (next : ℕ) (lt : i < length e) (reads : Reads e i item next) (inner : Limit) (to : limit ≡ Unlimited → inner ≡ Unlimited) (r : Outcome) (ns : List ℕ) where
-    -- the result of the items, from that of their first and the others
-    here : (is : List g.Item) (f : First e i item next is) (y : g.Item) → f.head ≡ y → is_bar y ≡ false
-        → Result (y ∷ leading f.tail) p m inner ms r ns (run l (y ∷ leading f.tail) p) → Result (leading is) p m limit ms r ns (run l (leading is) p)
-    here is f y same plain h =
-        let split : leading is ≡ y ∷ leading f.tail = ap leading (f.split ∙ ap (λ z. z ∷ f.tail) same) ∙ ap (λ t. cond t [] (y ∷ leading f.tail)) plain in
-        relimit p m limit ms inner to (subst (λ js. Result js p m inner ms r ns (run l js p)) (sym split) h)
+    pub takes : (r : Option ℕ) (ns : List ℕ) (t : Piece) (v : Times) → item ≡ i.Take t v → TriedTimes t v others at ms r ns → Tried items at ms r ns
+    takes r ns t v same tried = by_first r ns (λ y is h w.
+        let s = seen_as item (i.Take t v) y same h in rw s.2 (tried s.0 s.1 is s.3 s.4 w))
 
-    pub takes : (t : Piece) (u : Times) → item ≡ tok.Take t u → TriedTimes e i t u next l p m inner ms r ns → Tried e i l p m limit ms r ns
-    takes t u is-take tried is h =
-        let f = first e i item next lt reads is h in
-        let s = seen_as item (tok.Take t u) f.head is-take f.token in
-        let good : g.Good f.here.opened f.here.depth (g.takes s.0 s.1 ∷ f.tail) = subst (λ z. g.Good f.here.opened f.here.depth (z ∷ f.tail)) s.2 f.here.good in
-        let at : PieceAt e i t s.0 = record {
-          good = good.0;
-          rest = g.times s.1 (g.written f.tail);
-          written = sym (ap (λ z. g.item z (g.written f.tail)) s.2) ∙ f.here.written;
-          is = s.3;
-        } in
-        here is f (g.takes s.0 s.1) s.2 refl (tried s.0 s.1 f.tail at s.4 f.behind)
-
-    -- a bracket that was noted
-    pub opens : (mid : List ℕ) (n : ℕ) → Noted ms m p mid n → item ≡ tok.Open → Tried e next l p n inner mid r ns → Tried e i l p m limit ms r ns
-    opens mid n noted is_open tried is h =
-        let f = first e i item next lt reads is h in
-        here is f g.opens (seen_as item tok.Open f.head is_open f.token) refl
-        (on_bracket p m inner ms g.opens (leading f.tail) refl mid ns n noted r (run l (leading f.tail) p) (tried f.tail f.behind))
-
-    pub closes : (mid : List ℕ) (n : ℕ) → Noted ms m p mid n → item ≡ tok.Close → Tried e next l p n inner mid r ns → Tried e i l p m limit ms r ns
-    closes mid n noted is-close tried is h =
-        let f = first e i item next lt reads is h in
-        here is f g.closes (seen_as item tok.Close f.head is-close f.token) refl
-        (on_bracket p m inner ms g.closes (leading f.tail) refl mid ns n noted r (run l (leading f.tail) p) (tried f.tail f.behind))
-
-    -- an item that takes nothing and holds
-    still : (is : List g.Item) (f : First e i item next is) (y : g.Item) → f.head ≡ y → is_bar y ≡ false → is_bracket y ≡ false → (t : Bool) → t ≡ true
-        → run l (y ∷ leading f.tail) p ≡ when t (from p (run l (leading f.tail) p)) → Tried e next l p m inner ms r ns → Result (leading is) p m limit ms r ns (run l (leading is) p)
-    still is f y same plain flat t yes' runs tried =
-        here is f y same plain
-        (subst (λ o. Result (y ∷ leading f.tail) p m inner ms r ns o) (sym (runs ∙ ap (λ b. when b (from p (run l (leading f.tail) p))) yes'))
-        (on_item p m inner ms y (leading f.tail) p ns r (run l (leading f.tail) p) flat (tried f.tail f.behind)))
-
-    pub starts : item ≡ tok.Start → eqb p 0 ≡ true → Tried e next l p m inner ms r ns → Tried e i l p m limit ms r ns
-    starts is-start holds tried is h =
-        let f = first e i item next lt reads is h in
-        still is f g.start (seen_as item tok.Start f.head is-start f.token) refl refl (eqb p 0) holds refl tried
-
-    pub ends_line : item ≡ tok.End → at_end l p ≡ true → Tried e next l p m inner ms r ns → Tried e i l p m limit ms r ns
-    ends_line is-end holds tried is h =
-        let f = first e i item next lt reads is h in
-        still is f g.end (seen_as item tok.End f.head is-end f.token) refl refl (at_end l p) holds refl tried
-
-  module _ (item : Item) (next : ℕ) (lt : i < length e) (reads : Reads e i item next) where
     -- the alternative ends at a bar
-    pub bars : item ≡ tok.Bar → Tried e i l p m limit ms (Matched p) ms
-    bars is-bar is h =
-        let f = first e i item next lt reads is h in
-        let split : leading is ≡ [] = ap leading (f.split ∙ ap (λ z. z ∷ f.tail) (seen_as item tok.Bar f.head is-bar f.token)) in
-        subst (λ js. Result js p m limit ms (Matched p) ms (run l js p)) (sym split) (at_leaf p m limit ms)
+    pub bars : item ≡ i.Bar → Tried items at ms (Some at.place) ms
+    bars same = by_first (Some at.place) ms (λ y is h w. rw (seen_as item i.Bar y same h) (leaf at.place ms))
 
-    fails_as : (is : List g.Item) (f : First e i item next is) (y : g.Item) → f.head ≡ y → is_bar y ≡ false → run l (y ∷ leading f.tail) p ≡ None → Result (leading is) p m limit ms Failed ms (run l (leading is) p)
-    fails_as is f y same plain none =
-        let split : leading is ≡ y ∷ leading f.tail = ap leading (f.split ∙ ap (λ z. z ∷ f.tail) same) ∙ ap (λ t. cond t [] (y ∷ leading f.tail)) plain in
-        failed p m limit ms (leading is) (run l (leading is) p) (ap (λ js. run l js p) split ∙ none)
+    pub starts : (r : Option ℕ) (ns : List ℕ) → item ≡ i.Start → eqb at.place 0 ≡ true → Tried others at ms r ns → Tried items at ms r ns
+    starts r ns same holds tried = by_first r ns (λ y is h w.
+        rw (seen_as item i.Start y same h, holds) (on_item at.place ms g.start (leading is) at.place (run at.line.now (leading is) at.place) r ns refl (tried is w)))
 
-    pub not_start : item ≡ tok.Start → eqb p 0 ≡ false → Tried e i l p m limit ms Failed ms
-    not_start is-start no' is h =
-        let f = first e i item next lt reads is h in
-        fails_as is f g.start (seen_as item tok.Start f.head is-start f.token) refl (ap (λ t. when t (from p (run l (leading f.tail) p))) no')
+    pub ends_line : (r : Option ℕ) (ns : List ℕ) → item ≡ i.End → at_end at.line.now at.place ≡ true → Tried others at ms r ns → Tried items at ms r ns
+    ends_line r ns same holds tried = by_first r ns (λ y is h w.
+        rw (seen_as item i.End y same h, holds) (on_item at.place ms g.end (leading is) at.place (run at.line.now (leading is) at.place) r ns refl (tried is w)))
 
-    pub not_end : item ≡ tok.End → at_end l p ≡ false → Tried e i l p m limit ms Failed ms
-    not_end is-end no' is h =
-        let f = first e i item next lt reads is h in
-        fails_as is f g.end (seen_as item tok.End f.head is-end f.token) refl (ap (λ t. when t (from p (run l (leading f.tail) p))) no')
+    -- an item that takes nothing, and does not hold here
+    pub not_here : ((item ≡ i.Start) × (eqb at.place 0 ≡ false)) ⊎ (((item ≡ i.End) × (at_end at.line.now at.place ≡ false)) ⊎ (item ≡ i.Never)) → Tried items at ms None ms
+    not_here (inl h) = by_first None ms (λ y is seen w. (rw (seen_as item i.Start y h.0 seen, h.1), refl))
+    not_here (inr (inl h)) = by_first None ms (λ y is seen w. (rw (seen_as item i.End y h.0 seen, h.1), refl))
+    not_here (inr (inr h)) = by_first None ms (λ y is seen w. (rw (seen_as item i.Never y h seen).1, refl))
 
-    pub never : item ≡ tok.Never → Tried e i l p m limit ms Failed ms
-    never is_never is h =
-        let f = first e i item next lt reads is h in
-        let s = seen_as item tok.Never f.head is_never f.token in
-        fails_as is f (g.never s.0) s.1 refl refl
+    -- a bracket
+    pub noted : (r : Option ℕ) (mid ns : List ℕ) → (item ≡ i.Open) ⊎ (item ≡ i.Close) → Tried others at ms r mid → Noted at.place ms r mid ns → Tried items at ms r ns
+    noted r mid ns (inl same) tried push = by_first r ns (λ y is h w.
+        rw (seen_as item i.Open y same h) (on_bracket at.place ms g.opens (leading is) (run at.line.now (leading is) at.place) r mid ns refl (tried is w) push))
+    noted r mid ns (inr same) tried push = by_first r ns (λ y is h w.
+        rw (seen_as item i.Close y same h) (on_bracket at.place ms g.closes (leading is) (run at.line.now (leading is) at.place) r mid ns refl (tried is w) push))
 
--- ===== the needs of the repeats
-module _ (e : List ℕ) (i : ℕ) (t : Piece) (next : ℕ) (l : List ℕ) (p m : ℕ) (limit : Limit) (ms : List ℕ) (o : Option ℕ) (steps : Steps e i t l p o) where
-  -- results at the times that were read, as results at those that are written
-  at_times : (times was : Times) (y : g.Times) (x : g.Piece) (js : List g.Item) (r : Outcome) (ns : List ℕ) (v : g.Times) → v ≡ y
-      → Result (g.takes x y ∷ js) p m limit ms r ns (run l (g.takes x y ∷ js) p) → Result (g.takes x v ∷ js) p m limit ms r ns (run l (g.takes x v ∷ js) p)
-  at_times times was y x js r ns v same h = subst (λ z. Result (g.takes x z ∷ js) p m limit ms r ns (run l (g.takes x z ∷ js) p)) (sym same) h
+-- ===== the repeats
+module _ (t : Piece) (items : Items) (at : Cursor) (ms : List ℕ) where
+  abbrev on : List g.Item → ℕ → Option Way
+  on js q = from q (run at.line.now js q)
 
-  module _ (times : Times) (r : Outcome) (ns : List ℕ) where
-    pub once_on : (q : ℕ) → times ≡ u.Once → o ≡ Some q → Tried e next l q m limit ms r ns → TriedTimes e i t times next l p m limit ms r ns
-    once_on q is taken' tried x v js at read w =
-        at_times times u.Once g.once x (leading js) r ns v (seen_times_as times u.Once v is read)
-        (subst (λ y. Result (g.takes x g.once ∷ leading js) p m limit ms r ns (then y (λ q. from q (run l (leading js) q)))) (sym taken' ∙ steps x at)
-        (on_item p m limit ms (g.takes x g.once) (leading js) q ns r (run l (leading js) q) refl (tried js w)))
+  step_is : (o : Option Cursor) (x : g.Piece) → Steps t at.line.now at.place o → IsPiece t x → step at.line.now x at.place ≡ place_of o
+  step_is o x steps piece = sym (steps x piece)
 
-    pub some_on : (q : ℕ) → times ≡ u.Some → o ≡ Some q → TriedMost e i t next l q m limit ms r ns → TriedTimes e i t times next l p m limit ms r ns
-    some_on q is taken' tried x v js at read w =
-        at_times times u.Some g.some x (leading js) r ns v (seen_times_as times u.Some v is read)
-        (subst (λ y. Result (g.takes x g.some ∷ leading js) p m limit ms r ns (then y (most (step l x) (λ q. from q (run l (leading js) q)) (length l)))) (sym taken' ∙ steps x at)
-        (earlier x g.some (leading js) l p q m limit ms r ns (tried x js at w)))
+  -- after a step to q
+  module _ (q : Cursor) (steps : Steps t at.line.now at.place (Some q)) (same : q.line.now ≡ at.line.now) where
+    after : (js : List g.Item) (ms : List ℕ) (r : Option ℕ) (ns : List ℕ) → EndsAt q js ms r ns → Ends js q.place (run at.line.now js q.place) ms r ns
+    after js ms r ns h = rw same at h
 
-    pub many_on : times ≡ u.Many → TriedMost e i t next l p m limit ms r ns → TriedTimes e i t times next l p m limit ms r ns
-    many_on is tried x v js at read w = at_times times u.Many g.many x (leading js) r ns v (seen_times_as times u.Many v is read) (tried x js at w)
+    pub once_on : (times : Times) (r : Option ℕ) (ns : List ℕ) → times ≡ u.Once → Tried items q ms r ns → TriedTimes t times items at ms r ns
+    once_on times r ns is tried x v js piece read w =
+        rw (seen_times_as times u.Once v is read, step_is (Some q) x steps piece)
+        (on_item at.place ms (g.takes x g.once) (leading js) q.place (run at.line.now (leading js) q.place) r ns refl (after (leading js) ms r ns (tried js w)))
 
-    pub maybe_none : times ≡ u.Maybe → o ≡ None → Tried e next l p m limit ms r ns → TriedTimes e i t times next l p m limit ms r ns
-    maybe_none is none tried x v js at read w =
-        at_times times u.Maybe g.maybe x (leading js) r ns v (seen_times_as times u.Maybe v is read)
-        (subst (λ y. Result (g.takes x g.maybe ∷ leading js) p m limit ms r ns (else (then y (λ q. from q (run l (leading js) q))) (from p (run l (leading js) p)))) (sym none ∙ steps x at)
-        (on_item p m limit ms (g.takes x g.maybe) (leading js) p ns r (run l (leading js) p) refl (tried js w)))
+    pub some_on : (times : Times) (r : Option ℕ) (ns : List ℕ) → times ≡ u.Some → TriedMost t items q ms r ns → TriedTimes t times items at ms r ns
+    some_on times r ns is tried x v js piece read w =
+        rw (seen_times_as times u.Some v is read, step_is (Some q) x steps piece)
+        (earlier at.place ms at.line.now x g.some (leading js) q.place r ns (after (g.takes x g.many ∷ leading js) ms r ns (tried x js piece w)))
 
-    pub maybe_first : (q : ℕ) → times ≡ u.Maybe → o ≡ Some q → (r ≡ Failed → ⊥) → Tried e next l q m limit ms r ns → TriedTimes e i t times next l p m limit ms r ns
-    maybe_first q is taken' not-failed tried x v js at read w =
-        at_times times u.Maybe g.maybe x (leading js) r ns v (seen_times_as times u.Maybe v is read)
-        (subst (λ y. Result (g.takes x g.maybe ∷ leading js) p m limit ms r ns (else (then y (λ q. from q (run l (leading js) q))) (from p (run l (leading js) p)))) (sym taken' ∙ steps x at)
-        (tried_once p m limit ms (g.takes x g.maybe ∷ leading js) ns r (from q (run l (leading js) q)) (from p (run l (leading js) p)) not-failed
-        (on_item p m limit ms (g.takes x g.maybe) (leading js) q ns r (run l (leading js) q) refl (tried js w))))
+    pub maybe_first : (times : Times) (e : ℕ) (ns : List ℕ) → times ≡ u.Maybe → Tried items q ms (Some e) ns → TriedTimes t times items at ms (Some e) ns
+    maybe_first times e ns is tried x v js piece read w =
+        rw (seen_times_as times u.Maybe v is read, step_is (Some q) x steps piece)
+        (tried_once at.place ms (g.takes x g.maybe ∷ leading js) (on (leading js) q.place) (on (leading js) at.place) e ns
+        (on_item at.place ms (g.takes x g.maybe) (leading js) q.place (run at.line.now (leading js) q.place) (Some e) ns refl (after (leading js) ms (Some e) ns (tried js w))))
 
-    pub maybe_again : (q : ℕ) (mid : List ℕ) → times ≡ u.Maybe → o ≡ Some q → Tried e next l q m limit ms Failed mid → Tried e next l p m limit mid r ns → TriedTimes e i t times next l p m limit ms r ns
-    maybe_again q mid is taken' tried again x v js at read w =
-        at_times times u.Maybe g.maybe x (leading js) r ns v (seen_times_as times u.Maybe v is read)
-        (subst (λ y. Result (g.takes x g.maybe ∷ leading js) p m limit ms r ns (else (then y (λ q. from q (run l (leading js) q))) (from p (run l (leading js) p)))) (sym taken' ∙ steps x at)
-        (tried_again p m limit ms (g.takes x g.maybe ∷ leading js) mid ns r (from q (run l (leading js) q)) (from p (run l (leading js) p))
-        (on_item p m limit ms (g.takes x g.maybe) (leading js) q mid Failed (run l (leading js) q) refl (tried js w))
-        (on_item p m limit mid (g.takes x g.maybe) (leading js) p ns r (run l (leading js) p) refl (again js w))))
+    pub maybe_again : (times : Times) (mid : List ℕ) (r : Option ℕ) (ns : List ℕ) → times ≡ u.Maybe → Tried items q ms None mid → Tried items at mid r ns → TriedTimes t times items at ms r ns
+    maybe_again times mid r ns is tried again x v js piece read w =
+        rw (seen_times_as times u.Maybe v is read, step_is (Some q) x steps piece)
+        (tried_again at.place ms (g.takes x g.maybe ∷ leading js) (on (leading js) q.place) (on (leading js) at.place) mid ns r
+        (on_item at.place ms (g.takes x g.maybe) (leading js) q.place (run at.line.now (leading js) q.place) None mid refl (after (leading js) ms None mid (tried js w)))
+        (on_item at.place mid (g.takes x g.maybe) (leading js) at.place (run at.line.now (leading js) at.place) r ns refl (again js w)))
 
-  module _ (times : Times) where
-    pub once_none : times ≡ u.Once → o ≡ None → TriedTimes e i t times next l p m limit ms Failed ms
-    once_none is none x v js at read w =
-        at_times times u.Once g.once x (leading js) Failed ms v (seen_times_as times u.Once v is read)
-        (failed p m limit ms (g.takes x g.once ∷ leading js) _ (ap (λ y. then y (λ q. from q (run l (leading js) q))) (sym (sym none ∙ steps x at))))
+    pub most_first : (e : ℕ) (ns : List ℕ) → TriedMost t items q ms (Some e) ns → TriedMost t items at ms (Some e) ns
+    most_first e ns tried x js piece w =
+        rw (most_unfolds at.line.now x (on (leading js)) at.place, step_is (Some q) x steps piece)
+        (tried_once at.place ms (g.takes x g.many ∷ leading js) (run at.line.now (g.takes x g.many ∷ leading js) q.place) (on (leading js) at.place) e ns
+        (earlier at.place ms at.line.now x g.many (leading js) q.place (Some e) ns (after (g.takes x g.many ∷ leading js) ms (Some e) ns (tried x js piece w))))
 
-    pub some_none : times ≡ u.Some → o ≡ None → TriedTimes e i t times next l p m limit ms Failed ms
-    some_none is none x v js at read w =
-        at_times times u.Some g.some x (leading js) Failed ms v (seen_times_as times u.Some v is read)
-        (failed p m limit ms (g.takes x g.some ∷ leading js) _ (ap (λ y. then y (most (step l x) (λ q. from q (run l (leading js) q)) (length l))) (sym (sym none ∙ steps x at))))
+    pub most_again : (mid : List ℕ) (r : Option ℕ) (ns : List ℕ) → TriedMost t items q ms None mid → Tried items at mid r ns → TriedMost t items at ms r ns
+    most_again mid r ns tried again x js piece w =
+        rw (most_unfolds at.line.now x (on (leading js)) at.place, step_is (Some q) x steps piece)
+        (tried_again at.place ms (g.takes x g.many ∷ leading js) (run at.line.now (g.takes x g.many ∷ leading js) q.place) (on (leading js) at.place) mid ns r
+        (earlier at.place ms at.line.now x g.many (leading js) q.place None mid (after (g.takes x g.many ∷ leading js) ms None mid (tried x js piece w)))
+        (on_item at.place mid (g.takes x g.many) (leading js) at.place (run at.line.now (leading js) at.place) r ns refl (again js w)))
 
-  -- as many as can be
-  module _ (inner : Limit) (to : limit ≡ Unlimited → inner ≡ Unlimited) (r : Outcome) (ns : List ℕ) where
-    abbrev Most : g.Piece → List g.Item → ℕ → Option Way
-    Most x js q = most (step l x) (λ q. from q (run l js q)) (length l) q
+  -- the piece does not take what is there
+  module _ (steps : Steps t at.line.now at.place None) where
+    pub maybe_none : (times : Times) (r : Option ℕ) (ns : List ℕ) → times ≡ u.Maybe → Tried items at ms r ns → TriedTimes t times items at ms r ns
+    maybe_none times r ns is tried x v js piece read w =
+        rw (seen_times_as times u.Maybe v is read, step_is None x steps piece)
+        (on_item at.place ms (g.takes x g.maybe) (leading js) at.place (run at.line.now (leading js) at.place) r ns refl (tried js w))
 
-    unfolded : (x : g.Piece) (js : List g.Item) → PieceAt e i t x → Most x js p ≡ else (then o (Most x js)) (from p (run l js p))
-    unfolded x js at = most_unfolds l x (λ q. from q (run l js q)) p o (sym (steps x at))
+    pub most_none : (r : Option ℕ) (ns : List ℕ) → Tried items at ms r ns → TriedMost t items at ms r ns
+    most_none r ns tried x js piece w =
+        rw (most_unfolds at.line.now x (on (leading js)) at.place, step_is None x steps piece)
+        (on_item at.place ms (g.takes x g.many) (leading js) at.place (run at.line.now (leading js) at.place) r ns refl (tried js w))
 
-    -- the way of the rest is one of the whole, also from an earlier place
-    later : (x : g.Piece) (js : List g.Item) (q : ℕ) (r : Outcome) (ns : List ℕ) → Result (g.takes x g.many ∷ js) q m inner ms r ns (Most x js q) → Result (g.takes x g.many ∷ js) p m inner ms r ns (Most x js q)
-    later x js q r ns h = earlier x g.many js l p q m inner ms r ns h
+  pub many_on : (times : Times) (r : Option ℕ) (ns : List ℕ) → times ≡ u.Many → TriedMost t items at ms r ns → TriedTimes t times items at ms r ns
+  many_on times r ns is tried x v js piece read w = rw (seen_times_as times u.Many v is read) (tried x js piece w)
 
-    pub most_first : (q : ℕ) → o ≡ Some q → (r ≡ Failed → ⊥) → TriedMost e i t next l q m inner ms r ns → TriedMost e i t next l p m limit ms r ns
-    most_first q taken' not-failed tried x js at w =
-        relimit p m limit ms inner to
-        (subst (Result (g.takes x g.many ∷ leading js) p m inner ms r ns) (sym (unfolded x (leading js) at ∙ ap (λ y. else (then y (Most x (leading js))) (from p (run l (leading js) p))) taken'))
-        (tried_once p m inner ms (g.takes x g.many ∷ leading js) ns r (Most x (leading js) q) (from p (run l (leading js) p)) not-failed (later x (leading js) q r ns (tried x js at w))))
+-- ===== the match of an alternative
+module _ (e : List ℕ) (s : Start) (at : Cursor) (is : List g.Item) (begins : Begins e s is) where
+  begin_written : Written s.items.rest.now is
+  begin_written = record { opened = s.opened; depth = 0; good = begins.good; written = begins.written }
 
-    pub most_again : (q : ℕ) (mid : List ℕ) → o ≡ Some q → TriedMost e i t next l q m inner ms Failed mid → Tried e next l p m inner mid r ns → TriedMost e i t next l p m limit ms r ns
-    most_again q mid taken' tried again x js at w =
-        relimit p m limit ms inner to
-        (subst (Result (g.takes x g.many ∷ leading js) p m inner ms r ns) (sym (unfolded x (leading js) at ∙ ap (λ y. else (then y (Most x (leading js))) (from p (run l (leading js) p))) taken'))
-        (tried_again p m inner ms (g.takes x g.many ∷ leading js) mid ns r (Most x (leading js) q) (from p (run l (leading js) p)) (later x (leading js) q Failed mid (tried x js at w))
-        (on_item p m inner mid (g.takes x g.many) (leading js) p ns r (run l (leading js) p) refl (again js w))))
+  pub none_found : (ms ns : List ℕ) → Tried s.items at ms None ns → run at.line.now (leading is) at.place ≡ None
+  none_found ms ns tried = (tried is begin_written).0
 
-    pub most_none : o ≡ None → Tried e next l p m inner ms r ns → TriedMost e i t next l p m limit ms r ns
-    most_none none tried x js at w =
-        relimit p m limit ms inner to
-        (subst (Result (g.takes x g.many ∷ leading js) p m inner ms r ns) (sym (unfolded x (leading js) at ∙ ap (λ y. else (then y (Most x (leading js))) (from p (run l (leading js) p))) none))
-        (on_item p m inner ms (g.takes x g.many) (leading js) p ns r (run l (leading js) p) refl (tried js w)))
+  -- with its brackets, those that were noted the other way round
+  pub found : (ms ns : List ℕ) (q : ℕ) → ms ≡ [] → Tried s.items at ms (Some q) ns
+      → (w : Way) × (run at.line.now (leading is) at.place ≡ Some w) × (end_of at.place w ≡ q) × (length (brackets (leading is) w) ≤ 30 → reverse ns ≡ brackets (leading is) w)
+  found ms ns q empty tried =
+      let h : EndsAt at (leading is) [] (Some q) ns = rw empty at (tried is begin_written) in
+      (h.0, h.1, h.2, λ fits. ap reverse (h.3 (omega arith)) ∙ reverse-reverse (brackets (leading is) h.0))
 
-pub most_spent : (e : List ℕ) (i : ℕ) (t : Piece) (next : ℕ) (l : List ℕ) (p m : ℕ) (limit : Limit) (ms : List ℕ) → (limit ≡ Unlimited → ⊥) → TriedMost e i t next l p m limit ms Exhausted ms
-most_spent e i t next l p m limit ms free x js at w = exhausted p m limit ms (g.takes x g.many ∷ leading js) (run l (g.takes x g.many ∷ leading js) p) free
-
--- ===== the measure falls
-pub falls : (a b n k : ℕ) → a < b → a * (n + 3) + (n + 2) < b * (n + 3) + k
-falls a b n k lt =
-    let h : suc a * (n + 3) ≤ b * (n + 3) = mul-le-mul_right (n + 3) lt in
-    omega (arith, h, suc-mul a (n + 3))
-
-pub no_more : (a b n : ℕ) → a ≤ b → a * (n + 3) ≤ b * (n + 3)
-no_more a b n le = mul-le-mul_right (n + 3) le
+-- a list that was written over by as many
+pub refilled : (xs ys : List ℕ) → length ys ≡ length xs → take (length xs) (ys ++ drop (length ys) xs) ≡ ys
+refilled xs ys e = grind (arith, common_steps)

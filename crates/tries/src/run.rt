@@ -1,172 +1,132 @@
 // The match of one alternative by trying: each repeat takes as many characters as it can, and gives back one at a time.
 //
 // Nothing is remembered, so that the work can grow beyond all bounds; whoever cannot have that sets a limit.
-ghost use Rattle.std.specs.Prelude.{◌≡◌, ◌≤◌, length, Some as Just};
-ghost use Rattle.std.specs.Str.{IsCharBoundary};
-ghost use Rattle.tries.specs.Tried.{Tried, TriedMost, TriedTimes, Noted, holds_at};
+ghost use Rattle.std.specs.Prelude.{◌≡◌, [], IfOk};
+ghost use Rattle.tries.specs.Tried.{Tried, TriedTimes, TriedMost};
 
-use grammar::items::{Item, Piece, Times, item_at};
-use ways::step::{at_end, step};
+use crate::limit::Limit;
+use arrayvec::ArrayVec;
+use grammar::items::{Item, Items, Piece, Times};
+use ways::cursor::Cursor;
+use ways::find::{FindWay, Matched};
+use ways::start::Start;
 
-// How deep the tries may nest; each also spends fuel, if they are limited.
-#[derive(Clone, Copy)]
-pub enum Limit {
-    Unlimited,
-    Deep(usize),
+// The tries, and where the brackets stand on the way that was found, the last one first.
+#[derive(Drop)]
+pub struct Tries<L> {
+    pub limit: L,
+    // how many tries may be nested
+    pub depth: usize,
+    pub brackets: ArrayVec<usize, 30>,
 }
 
-#[derive(Clone, Copy)]
-pub enum Outcome {
-    // and where the match ends
-    Matched(usize),
-    Failed,
-    // the limit was reached before it was known
-    Exhausted,
-}
+impl<L: Limit> Tries<L> {
+    // Tries that may be nested so deep.
+    pub fn new(limit: L, depth: usize) -> Tries<L>
+        ensures limit { result.limit ≡ limit }
+        ensures depth { result.depth ≡ depth }
+        ensures none_noted { result.brackets.items ≡ [] }
+    {
+        Tries {
+            limit,
+            depth,
+            brackets: ArrayVec::new(),
+        }
+    }
 
-fn deeper(limit: Limit, fuel: &mut usize) -> Option<Limit>
-    ensures { limit ≡ Limit.Unlimited → result ≡ Just Limit.Unlimited }
-{
-    match limit {
-        Limit::Unlimited => Some(Limit::Unlimited),
-        Limit::Deep(left) => {
-            if left == 0 || *fuel == 0 {
-                return None;
+    // Where the items end, up to the next bar, from the place on, if they match.
+    #[cycle(run_run_most_run_times)]
+    fn run(
+        &mut self,
+        items: &Items<'_>,
+        from: &Cursor<'_>,
+        depth: usize,
+    ) -> Result<Option<usize>, L::Stop>
+        ensures { IfOk result (λ r. Tried items.now from.now self.old.brackets.items r self.new.brackets.items) }
+    {
+        let Some((item, items)) = items.split_first() else {
+            return Ok(Some(from.place));
+        };
+        let depth = self.limit.deeper(depth)?;
+        match item {
+            Item::Take(piece, times) => self.run_times(&piece, times, &items, from, depth),
+            Item::Bar => Ok(Some(from.place)),
+            Item::Open | Item::Close => {
+                let end = self.run(&items, from, depth)?;
+                if end.is_some() {
+                    // an expression has no more brackets than there is room for
+                    let _ = self.brackets.try_push(from.place);
+                }
+                Ok(end)
             }
-            *fuel -= 1;
-            Some(Limit::Deep(left - 1))
+            Item::Start if from.is_at_start() => self.run(&items, from, depth),
+            Item::End if from.is_at_end() => self.run(&items, from, depth),
+            Item::Start | Item::End | Item::Never => Ok(None),
         }
     }
-}
 
-// Notes where a bracket stands; the answer is where the next is noted.
-pub fn note(marks: &mut [usize], m: usize, place: usize) -> usize
-    ensures { Noted marks.old m place marks.new result }
-{
-    if m < marks.len() {
-        marks[m] = place;
-        m + 1
-    } else {
-        m
-    }
-}
-
-// Whether an item that takes nothing holds at the place.
-pub fn holds(item: Item, line: &[u8], place: usize) -> bool
-    ensures { result ≡ holds_at item line.now place }
-{
-    match item {
-        Item::Start => place == 0,
-        Item::End => at_end(line, place),
-        _ => false,
-    }
-}
-
-// The items from `i` up to the next bar, from the place on. Where they match, `marks` has from `m` on the places of their brackets.
-#[cycle(run_run_most_run_times)]
-pub fn run(
-    expression: &[u8],
-    i: usize,
-    line: &str,
-    place: usize,
-    m: usize,
-    limit: Limit,
-    fuel: &mut usize,
-    marks: &mut [usize],
-) -> Outcome
-    requires within { i ≤ length expression.now }
-    requires edge { IsCharBoundary line.now place }
-    ensures { Tried expression.now i line.now place m limit marks.old result marks.new }
-{
-    if i >= expression.len() {
-        return Outcome::Matched(place);
-    }
-    let Some(limit) = deeper(limit, fuel) else {
-        return Outcome::Exhausted;
-    };
-    let (item, next) = item_at(expression, i);
-    match item {
-        Item::Take(piece, times) => run_times(
-            expression, i, piece, times, next, line, place, m, limit, fuel, marks,
-        ),
-        Item::Bar => Outcome::Matched(place),
-        Item::Open | Item::Close => {
-            let m = note(marks, m, place);
-            run(expression, next, line, place, m, limit, fuel, marks)
+    // The piece, as often as `times` says, and the items behind it.
+    #[cycle(run_run_most_run_times)]
+    fn run_times(
+        &mut self,
+        piece: &Piece<'_>,
+        times: Times,
+        items: &Items<'_>,
+        from: &Cursor<'_>,
+        depth: usize,
+    ) -> Result<Option<usize>, L::Stop>
+        ensures { IfOk result (λ r. TriedTimes piece.now times items.now from.now self.old.brackets.items r self.new.brackets.items) }
+    {
+        match (times, from.step(piece)) {
+            (Times::Once, Some(next)) => self.run(items, &next, depth),
+            (Times::Maybe, Some(next)) => match self.run(items, &next, depth)? {
+                Some(end) => Ok(Some(end)),
+                None => self.run(items, from, depth),
+            },
+            (Times::Many, _) => self.run_most(piece, items, from, depth),
+            (Times::Some, Some(next)) => self.run_most(piece, items, &next, depth),
+            (Times::Maybe, None) => self.run(items, from, depth),
+            (Times::Once | Times::Some, None) => Ok(None),
         }
-        Item::Start | Item::End | Item::Never => {
-            if holds(item, line.as_bytes(), place) {
-                run(expression, next, line, place, m, limit, fuel, marks)
-            } else {
-                Outcome::Failed
+    }
+
+    // The piece as often as can be, and the items behind it.
+    #[cycle(run_run_most_run_times)]
+    fn run_most(
+        &mut self,
+        piece: &Piece<'_>,
+        items: &Items<'_>,
+        from: &Cursor<'_>,
+        depth: usize,
+    ) -> Result<Option<usize>, L::Stop>
+        ensures { IfOk result (λ r. TriedMost piece.now items.now from.now self.old.brackets.items r self.new.brackets.items) }
+    {
+        let depth = self.limit.deeper(depth)?;
+        if let Some(next) = from.step(piece) {
+            if let Some(end) = self.run_most(piece, items, &next, depth)? {
+                return Ok(Some(end));
             }
         }
+        self.run(items, from, depth)
     }
 }
 
-// The piece at `i`, as often as `times` says, and the items from `next` on.
-#[cycle(run_run_most_run_times)]
-fn run_times(
-    expression: &[u8],
-    i: usize,
-    piece: Piece,
-    times: Times,
-    next: usize,
-    line: &str,
-    place: usize,
-    m: usize,
-    limit: Limit,
-    fuel: &mut usize,
-    marks: &mut [usize],
-) -> Outcome
-    requires within { next ≤ length expression.now }
-    requires edge { IsCharBoundary line.now place }
-    ensures { TriedTimes expression.now i piece times next line.now place m limit marks.old result marks.new }
-{
-    let taken = step(expression, i, piece, line, place);
-    match (times, taken) {
-        (Times::Once, Some(q)) => run(expression, next, line, q, m, limit, fuel, marks),
-        (Times::Maybe, Some(q)) => match run(expression, next, line, q, m, limit, fuel, marks) {
-            Outcome::Failed => run(expression, next, line, place, m, limit, fuel, marks),
-            other => other,
-        },
-        (Times::Many, _) => run_most(
-            expression, i, piece, next, line, place, m, limit, fuel, marks,
-        ),
-        (Times::Some, Some(q)) => run_most(
-            expression, i, piece, next, line, q, m, limit, fuel, marks,
-        ),
-        (Times::Maybe, None) => run(expression, next, line, place, m, limit, fuel, marks),
-        (Times::Once | Times::Some, None) => Outcome::Failed,
-    }
-}
+impl<L: Limit> FindWay for Tries<L> {
+    type Stop = L::Stop;
 
-// The piece at `i` as often as can be, and the items from `next` on.
-#[cycle(run_run_most_run_times)]
-fn run_most(
-    expression: &[u8],
-    i: usize,
-    piece: Piece,
-    next: usize,
-    line: &str,
-    place: usize,
-    m: usize,
-    limit: Limit,
-    fuel: &mut usize,
-    marks: &mut [usize],
-) -> Outcome
-    requires within { next ≤ length expression.now }
-    requires edge { IsCharBoundary line.now place }
-    ensures { TriedMost expression.now i piece next line.now place m limit marks.old result marks.new }
-{
-    let Some(limit) = deeper(limit, fuel) else {
-        return Outcome::Exhausted;
-    };
-    if let Some(q) = step(expression, i, piece, line, place) {
-        match run_most(expression, i, piece, next, line, q, m, limit, fuel, marks) {
-            Outcome::Failed => {}
-            other => return other,
-        }
+    ghost serves = { λ _ _ _. Unit {0} };
+
+    fn find_way(
+        &mut self,
+        start: &Start<'_>,
+        from: &Cursor<'_>,
+    ) -> Result<Option<Matched>, L::Stop> {
+        self.brackets.clear();
+        let Some(end) = self.run(&start.items, from, self.depth)? else {
+            return Ok(None);
+        };
+        let mut brackets = std::mem::replace(&mut self.brackets, ArrayVec::new());
+        brackets.reverse();
+        Ok(Some(Matched { end, brackets }))
     }
-    run(expression, next, line, place, m, limit, fuel, marks)
 }
