@@ -1,4 +1,0 @@
-pub mod Cells
-pub mod Rows
-pub mod Tables
-pub mod Walks

@@ -1,26 +1,22 @@
 -- What a table remembers of an expression and a line. Assumes nothing.
-use Rattle.std.specs.Prelude.{◌≡◌, ℕ, zero, suc, ◌<◌, Bool, List, [], ◌∷◌, length, drop, vec_items, Vec, nat_lt, slice_index}
+use Rattle.std.specs.Prelude.{◌≡◌, ℕ, zero, suc, ◌≤◌, Bool, List, [], ◌∷◌, length, drop, vec_items, Vec}
+use Rattle.grammar.specs.Grammar as g
 use Rattle.grammar.specs.Parse.{items}
 use Rattle.ways.specs.Meaning.{leading}
-use Rattle.ways.specs.Reading.{WrittenAt}
 use Rattle.table.specs.declared.fill.Table.{Table}
 use Rattle.table.specs.Cells.{Row}
 
--- the cells of the row r
+-- the cells of the row n
 abbrev pub row_at : {Z : Type 0} → List (Vec Bool Z) → ℕ → List Bool
-row_at [] r = []
+row_at [] n = []
 row_at (v ∷ vs) zero = vec_items v
-row_at (v ∷ vs) (suc r) = row_at vs r
+row_at (v ∷ vs) (suc n) = row_at vs n
 
--- the items of e stand at the places
-pub record Stand (e places : List ℕ) : Type 0 where
-  pub all : length places ≡ length (items e)
-  pub each : (k : ℕ) → k < length places → WrittenAt e (slice_index places k) (drop k (items e))
+-- there is a row for the items is, for those behind the first, and so on, and one for no item
+pub record RowsOf {Z : Type 0} (l : List ℕ) (is : List g.Item) (rows : List (Vec Bool Z)) : Type 0 where
+  pub count : length rows ≡ suc (length is)
+  pub each : (n : ℕ) → n ≤ length is → Row l (leading (drop n is)) (row_at rows n)
 
-abbrev pub is_filled : Table → Bool
-is_filled t = nat_lt 0 (length (vec_items t.rows))
-
--- there is a row for no item, for the last one, for the last two, and so on
-pub record Filled (e l : List ℕ) (t : Table) : Type 0 where
-  pub count : length (vec_items t.rows) ≡ suc (length (items e))
-  pub rows : (k : ℕ) → Row l (leading (drop k (items e))) (row_at (vec_items t.rows) (length (drop k (items e))))
+-- the rows of all items of e
+abbrev pub Filled : List ℕ → List ℕ → Table → Type 0
+Filled e l t = RowsOf l (items e) (vec_items t.rows)
