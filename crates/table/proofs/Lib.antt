@@ -1,0 +1,5 @@
+pub mod Most
+pub mod Cells
+pub mod Rows
+pub mod Walks
+pub mod Tables

@@ -1,5 +1,8 @@
 // A table of which items match from which places, filled from the last item to the first.
-ghost use Rattle.std.specs.Prelude.{[], IfOk};
+ghost use Rattle.std.specs.Prelude.{[], List, IfOk};
+ghost use Rattle.std.specs.List.{AllZip};
+ghost use Rattle.grammar.specs.Grammar as g;
+ghost use Rattle.grammar.specs.Items.{IsItem, Written};
 ghost use Rattle.table.specs.Cells.{Row};
 
 use crate::row::row;
@@ -15,7 +18,9 @@ pub struct Table {
 }
 
 // The items, in a list.
-fn list<'a>(heap: Global, items: Items<'a>) -> Result<Vec<Item<'a>>, AllocError> {
+fn list<'a>(heap: Global, items: Items<'a>) -> Result<Vec<Item<'a>>, AllocError>
+    ensures { IfOk result (λ v. (is : List g.Item) → Written items.entry.rest.now is → AllZip IsItem v.items is) }
+{
     let mut list = Vec::new(heap);
     let mut left = items;
     while let Some((item, others)) = left.split_first() {
@@ -43,15 +48,13 @@ impl Table {
     {
         let items = list(heap, expression.items())?;
         let mut rows = Vec::new(heap);
-        rows.push(last_row(heap, line)?)?;
+        let mut below = last_row(heap, line)?;
         for item in items.iter().rev() {
-            let below = match rows.last() {
-                Some(row) => row.as_slice(),
-                None => &[],
-            };
-            let here = row(heap, item, line, below)?;
-            rows.push(here)?;
+            let here = row(heap, item, line, &below)?;
+            rows.push(below)?;
+            below = here;
         }
+        rows.push(below)?;
         rows.reverse();
         Ok(Table { rows })
     }

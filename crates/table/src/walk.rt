@@ -24,11 +24,10 @@ fn follow(rows: &[Vec<bool>], items: &Items<'_>, from: &Cursor<'_>) -> Matched
     let mut brackets = ArrayVec::new();
     let mut left = *items;
     let mut rows = rows;
-    while let (Some((item, others)), [here, rest @ ..]) = (left.split_first(), rows) {
+    while let (Some((item, others)), [here, below, ..]) = (left.split_first(), rows) {
         match item {
             Item::Take(piece, times) => {
-                let below = rest.first().map_or(&[][..], |row| row.as_slice());
-                end = Rows { here: here.as_slice(), below }.take(&piece, times, &end);
+                end = Rows { here, below }.take(&piece, times, &end);
             }
             Item::Open | Item::Close => {
                 // an expression has no more brackets than there is room for
@@ -39,7 +38,7 @@ fn follow(rows: &[Vec<bool>], items: &Items<'_>, from: &Cursor<'_>) -> Matched
             Item::Bar => break,
         }
         left = others;
-        rows = rest;
+        rows = &rows[1..];
     }
     Matched { end: end.place, brackets }
 }
