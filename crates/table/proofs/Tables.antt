@@ -1,12 +1,20 @@
 -- A table grows by a row, for one item more at the front. Assumes nothing.
-use Rattle.std.proofs.Common.{◌≡◌, ℕ, zero, suc, ◌+◌, ◌-◌, ◌<◌, ◌≤◌, Bool, true, false, List, [], ◌∷◌, ◌++◌, length, get_or, drop, replicate, vec_items, Vec, Some, None, sym, refl, ap, ◌∙◌, subst, append_assoc, arith}
-use Rattle.std.proofs.lemmas.List.{append-nil}
+use Rattle.std.proofs.Common.{◌≡◌, ℕ, zero, suc, ◌+◌, ◌-◌, ◌<◌, ◌≤◌, min, List, [], ◌∷◌, ◌++◌, length, get_or, drop, vec_items, Vec, Bor, Some, None, Option, sym, refl, ap, ◌∙◌, subst, ⊎_elim, append_assoc, le_of_suc-le-suc, arith}
 use Rattle.std.specs.List.{AllZip}
+use mathlib.Core.List.{map, reverse}
+use Rattle.std.proofs.lemmas.List.{append-nil, map-append, reverse-append, length-drop, drop-drop, drop_all}
+use Rattle.std.proofs.lemmas.Bool.{cases_lt}
 use Rattle.grammar.specs.declared.items.Item.{Item}
 use Rattle.grammar.specs.declared.items.Items.{Items}
 use Rattle.grammar.specs.Grammar as g
 use Rattle.grammar.specs.Items.{IsItem, Written, Reads}
+use Rattle.grammar.specs.Parse.{items, Spelled}
+use Rattle.grammar.specs.Reader.{refusal}
+use Rattle.grammar.proofs.Judging.{spelled}
+use Rattle.ways.specs.Meaning.{leading}
 use Rattle.ways.proofs.Reading.{first, none_written}
+use Rattle.table.specs.Cells.{Row, RowOn}
+use Rattle.table.specs.Tables.{row_at, RowsOf}
 
 -- ===== the list of the items
 -- of the items is some are listed, and the others are left, written so
@@ -15,22 +23,73 @@ pub record Listing (is : List g.Item) (bytes : List ℕ) (listed : List Item) : 
   pub written : Written bytes tail
   pub goes : (xs : List Item) → AllZip IsItem xs tail → AllZip IsItem (listed ++ xs) is
 
-module _ (is : List g.Item) (bytes : List ℕ) where
-  pub listing_none : Written bytes is → Listing is bytes []
-  listing_none w = record { tail = is; written = w; goes = λ xs h. h }
+module _ (is : List g.Item) (bytes : List ℕ) (listed : List Item) (s : Listing is bytes listed) where
+  pub listing_more : (item : Item) (others : Items) → Reads bytes (Some (item, others)) → Listing is others.rest.now (listed ++ item ∷ [])
+  listing_more item others reads =
+      let f = first bytes item others reads s.tail s.written in
+      record {
+        tail = f.tail;
+        written = f.behind;
+        goes = λ xs h. subst (λ ys. AllZip IsItem ys is) (sym (append_assoc listed (item ∷ []) xs))
+            (s.goes (item ∷ xs) (subst (AllZip IsItem (item ∷ xs)) (sym f.split) (f.here, h)));
+      }
 
-  module _ (listed : List Item) (s : Listing is bytes listed) where
-    pub listing_more : (item : Item) (others : Items) → Reads bytes (Some (item, others)) → Listing is others.rest.now (listed ++ item ∷ [])
-    listing_more item others reads =
-        let f = first bytes item others reads s.tail s.written in
-        record {
-          tail = f.tail;
-          written = f.behind;
-          goes = λ xs h. subst (λ ys. AllZip IsItem ys is) (sym (append_assoc listed (item ∷ []) xs))
-              (s.goes (item ∷ xs) (subst (AllZip IsItem (item ∷ xs)) (sym f.split) (f.here, h)));
-        }
+  pub listing_all : Reads bytes None → AllZip IsItem listed is
+  listing_all reads =
+      subst (λ ys. AllZip IsItem ys is) (append-nil listed)
+      (s.goes [] (subst (AllZip IsItem []) (sym (none_written bytes reads s.tail s.written)) tt))
 
-    pub listing_all : Reads bytes None → AllZip IsItem listed is
-    listing_all reads =
-        subst (λ ys. AllZip IsItem ys is) (append-nil listed)
-        (s.goes [] (subst (AllZip IsItem []) (sym (none_written bytes reads s.tail s.written)) tt))
+-- an expression that is not refused is written by its items
+pub legal_written : (e : List ℕ) → refusal e ≡ None → Written e (items e)
+legal_written e legal = let s = subst (Spelled e) legal (spelled e) in record { opened = 0; depth = 0; good = s.0; written = s.1 }
+
+-- ===== the rows of a list
+module _ {Z : Type 0} where
+  pub row_read : (rows : List (Vec Bool Z)) (n : ℕ) (v : Vec Bool Z) → n < length rows → v ≡ get_or rows n v → vec_items v ≡ row_at rows n
+  row_read [] n v lt is = absurd (omega arith)
+  row_read (w ∷ rows) zero v lt is = ap vec_items is
+  row_read (w ∷ rows) (suc n) v lt is = row_read rows n v (le_of_suc-le-suc lt) is
+
+  row_behind : (rows : List (Vec Bool Z)) (k n : ℕ) → row_at (drop k rows) n ≡ row_at rows (k + n)
+  row_behind rows zero n = refl
+  row_behind [] (suc k) n = refl
+  row_behind (w ∷ rows) (suc k) n = row_behind rows k n
+
+  -- the rows of the items from the kth on
+  pub rows_behind : (l : List ℕ) (is : List g.Item) (rows : List (Vec Bool Z)) (k : ℕ) → k ≤ length is → RowsOf l is rows → RowsOf l (drop k is) (drop k rows)
+  rows_behind l is rows k le h = record {
+    count = omega (arith, length-drop k is, length-drop k rows, h.count);
+    each = λ n in'. subst (Row l (leading (drop n (drop k is)))) (sym (row_behind rows k n))
+        (subst (λ (js : List g.Item). Row l (leading js) (row_at rows (k + n))) (sym (drop-drop n k is)) (h.each (k + n) (omega (arith, length-drop k is))));
+  }
+
+  -- ===== a row more
+  pub rows_more : (l : List ℕ) (item : Item) (y : g.Item) (js : List g.Item) (here below : Vec Bool Z) (rows : List (Vec Bool Z))
+      → IsItem item y → RowOn item l (vec_items below) (vec_items here) → RowsOf l js (below ∷ rows) → RowsOf l (y ∷ js) (here ∷ below ∷ rows)
+  rows_more l item y js here below rows is on h = record { count = ap suc h.count; each = each }
+    where
+      each : (n : ℕ) → n ≤ length (y ∷ js) → Row l (leading (drop n (y ∷ js))) (row_at (here ∷ below ∷ rows) n)
+      each zero le = on y js is (h.each 0 (omega arith))
+      each (suc n) le = h.each n (le_of_suc-le-suc le)
+
+  -- the rows of the last items, which are listed backwards; the first of them is below
+  pub record Growing (l : List ℕ) (done : List (Bor Item)) (below : Vec Bool Z) (rows : List (Vec Bool Z)) : Type 0 where
+    pub each : (js : List g.Item) → AllZip IsItem (reverse (map (λ y. y.now) done)) js → RowsOf l js (below ∷ reverse rows)
+
+  pub growing_none : (l : List ℕ) (below : Vec Bool Z) → Row l [] (vec_items below) → Growing l [] below []
+  growing_none l below row = record { each = each }
+    where
+      each : (js : List g.Item) → AllZip IsItem [] js → RowsOf l js (below ∷ [])
+      each [] h = record { count = refl; each = λ n le. subst (λ (k : ℕ). Row l (leading (drop {A = g.Item} k [])) (row_at (below ∷ []) k)) (omega arith) row }
+      each (y ∷ js) h = absurd h
+
+  pub growing_more : (l : List ℕ) (done : List (Bor Item)) (item : Bor Item) (here below : Vec Bool Z) (rows : List (Vec Bool Z))
+      → RowOn item.now l (vec_items below) (vec_items here) → Growing l done below rows → Growing l (done ++ item ∷ []) here (rows ++ below ∷ [])
+  growing_more l done item here below rows on h = record {
+    each = λ js zip. subst (λ vs. RowsOf l js (here ∷ vs)) (sym (reverse-append rows (below ∷ [])))
+        (each js (subst (λ xs. AllZip IsItem xs js) (ap reverse (map-append (λ y. y.now) done (item ∷ [])) ∙ reverse-append (map (λ y. y.now) done) (item.now ∷ [])) zip));
+  }
+    where
+      each : (js : List g.Item) → AllZip IsItem (item.now ∷ reverse (map (λ y. y.now) done)) js → RowsOf l js (here ∷ below ∷ reverse rows)
+      each [] zip = absurd zip
+      each (y ∷ js) zip = rows_more l item.now y js here below (reverse rows) zip.0 on (h.each js zip.1)

@@ -17,13 +17,12 @@ use ways::find::{FindWay, Matched};
 use ways::start::Start;
 
 // The way of the items from the place up to the next bar, where there is one; the rows are those of the items.
-fn follow(rows: &[Vec<bool>], items: &Items<'_>, from: &Cursor<'_>) -> Matched
+fn follow(mut rows: &[Vec<bool>], items: &Items<'_>, from: &Cursor<'_>) -> Matched
     ensures { (is : List g.Item) → Written items.now.rest.now is → RowsOf from.now.line.now is rows.now → is_some (run from.now.line.now (leading is) from.now.place) ≡ true → Matches (leading is) from.now.place (run from.now.line.now (leading is) from.now.place) (Just result) }
 {
     let mut end = *from;
     let mut brackets = ArrayVec::new();
     let mut left = *items;
-    let mut rows = rows;
     while let (Some((item, others)), [here, below, ..]) = (left.split_first(), rows) {
         match item {
             Item::Take(piece, times) => {
@@ -49,7 +48,9 @@ impl FindWay for Table {
     ghost serves = { λ t e l. Filled e l t };
 
     fn find_way(&mut self, start: &Start<'_>, from: &Cursor<'_>) -> Result<Option<Matched>, Infallible> {
-        let rows = self.rows.get(start.nth..).unwrap_or(&[]);
+        // the last row is that of no item, which stands for all that are no more
+        let last = self.rows.len().saturating_sub(1);
+        let rows = &self.rows[start.nth.min(last)..];
         match rows {
             [first, ..] if is_set(first.as_slice(), from.place) => Ok(Some(follow(rows, &start.items, from))),
             _ => Ok(None),
