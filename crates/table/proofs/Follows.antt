@@ -1,5 +1,6 @@
 -- The walk through a table: what was passed, and the way of what is left. Assumes nothing.
 use Rattle.std.proofs.Common.{◌≡◌, ℕ, zero, suc, ◌+◌, ◌-◌, ◌<◌, ◌≤◌, Bool, true, false, cond, eqb, List, [], ◌∷◌, ◌++◌, length, get_or, drop, is_some, Some, None, vec_items, Vec, Option, sym, refl, ap, ◌∙◌, subst, append_assoc, arith}
+use Rattle.std.specs.Prelude.{Result, Ok, Err, IsOk, OnOk}
 use Rattle.std.proofs.lemmas.List.{append-nil, length-append}
 use Rattle.grammar.specs.declared.items.Piece.{Piece}
 use Rattle.grammar.specs.declared.items.Times.{Times}
@@ -56,6 +57,11 @@ pub noted_more : (marks passed new : List ℕ) (q : ℕ) → (length marks < 30 
 noted_more marks passed new q pushed noted few =
     let same = noted (omega (arith, length-append passed (q ∷ []))) in
     pushed (omega (arith, length-append passed (q ∷ []), ap length same)) ∙ ap (λ (ps : List ℕ). ps ++ q ∷ []) same
+
+-- what holds of a value holds where there is one
+pub on_ok : {T E : Type 0} (r : Result T E) (P : Type 0) → IsOk r → OnOk r P → P
+on_ok (Ok t) P ok h = h
+on_ok (Err e) P ok h = cc
 
 when_some : (b : Bool) (o : Option Way) → is_some (when b o) ≡ true → when b o ≡ o
 when_some true o e = refl

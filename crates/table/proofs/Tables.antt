@@ -1,8 +1,9 @@
 -- A table grows by a row, for one item more at the front. Assumes nothing.
-use Rattle.std.proofs.Common.{◌≡◌, ℕ, zero, suc, ◌+◌, ◌-◌, ◌<◌, ◌≤◌, min, List, [], ◌∷◌, ◌++◌, length, get_or, drop, vec_items, Vec, Bor, Some, None, Option, sym, refl, ap, ◌∙◌, subst, ⊎_elim, append_assoc, le_of_suc-le-suc, arith}
-use Rattle.std.specs.List.{AllZip}
+use Rattle.std.proofs.Common.{◌≡◌, ℕ, zero, suc, ◌+◌, ◌-◌, ◌<◌, ◌≤◌, min, Bool, false, is_some, List, [], ◌∷◌, ◌++◌, length, get_or, take, drop, vec_items, Vec, Bor, Some, None, Option, sym, refl, ap, ◌∙◌, subst, ⊎_elim, append_assoc, le_of_suc-le-suc, arith}
+use Rattle.std.specs.Str.{IsCharBoundary}
+use Rattle.std.specs.List.{AllZip, slice_get}
 use mathlib.Core.List.{map, reverse}
-use Rattle.std.proofs.lemmas.List.{append-nil, map-append, reverse-append, length-drop, drop-drop, drop_all}
+use Rattle.std.proofs.lemmas.List.{append-nil, map-append, reverse-append, length-drop, drop-drop, drop_all, take_rest}
 use Rattle.std.proofs.lemmas.Bool.{cases_lt}
 use Rattle.grammar.specs.declared.items.Item.{Item}
 use Rattle.grammar.specs.declared.items.Items.{Items}
@@ -11,7 +12,10 @@ use Rattle.grammar.specs.Items.{IsItem, Written, Reads}
 use Rattle.grammar.specs.Parse.{items, Spelled}
 use Rattle.grammar.specs.Reader.{refusal}
 use Rattle.grammar.proofs.Judging.{spelled}
+use Rattle.ways.specs.declared.start.Start.{Start}
+use Rattle.ways.specs.Match.{run}
 use Rattle.ways.specs.Meaning.{leading}
+use Rattle.ways.specs.Starts.{Begins}
 use Rattle.ways.proofs.Reading.{first, none_written}
 use Rattle.table.specs.Cells.{Row, RowOn}
 use Rattle.table.specs.Tables.{row_at, RowsOf}
@@ -51,9 +55,9 @@ module _ {Z : Type 0} where
   row_read (w ∷ rows) (suc n) v lt is = row_read rows n v (le_of_suc-le-suc lt) is
 
   row_behind : (rows : List (Vec Bool Z)) (k n : ℕ) → row_at (drop k rows) n ≡ row_at rows (k + n)
-  row_behind rows zero n = refl
+  row_behind rows zero n = ap (row_at rows) (omega arith)
   row_behind [] (suc k) n = refl
-  row_behind (w ∷ rows) (suc k) n = row_behind rows k n
+  row_behind (w ∷ rows) (suc k) n = let more : suc (k + n) ≡ suc k + n = omega arith in row_behind rows k n ∙ ap (row_at (w ∷ rows)) more
 
   -- the rows of the items from the kth on
   pub rows_behind : (l : List ℕ) (is : List g.Item) (rows : List (Vec Bool Z)) (k : ℕ) → k ≤ length is → RowsOf l is rows → RowsOf l (drop k is) (drop k rows)
@@ -79,8 +83,12 @@ module _ {Z : Type 0} where
   pub growing_none : (l : List ℕ) (below : Vec Bool Z) → Row l [] (vec_items below) → Growing l [] below []
   growing_none l below row = record { each = each }
     where
+      alone : (n : ℕ) → n ≤ 0 → Row l (leading (drop n [])) (row_at (below ∷ []) n)
+      alone zero le = row
+      alone (suc n) le = absurd (omega arith)
+
       each : (js : List g.Item) → AllZip IsItem [] js → RowsOf l js (below ∷ [])
-      each [] h = record { count = refl; each = λ n le. subst (λ (k : ℕ). Row l (leading (drop {A = g.Item} k [])) (row_at (below ∷ []) k)) (omega arith) row }
+      each [] h = record { count = refl; each = alone }
       each (y ∷ js) h = absurd h
 
   pub growing_more : (l : List ℕ) (done : List (Bor Item)) (item : Bor Item) (here below : Vec Bool Z) (rows : List (Vec Bool Z))
@@ -93,3 +101,28 @@ module _ {Z : Type 0} where
       each : (js : List g.Item) → AllZip IsItem (item.now ∷ reverse (map (λ y. y.now) done)) js → RowsOf l js (here ∷ below ∷ reverse rows)
       each [] zip = absurd zip
       each (y ∷ js) zip = rows_more l item.now y js here below (reverse rows) zip.0 on (h.each js zip.1)
+
+-- ===== the rows of an alternative
+-- behind the last item there is none
+drop_within : (n m : ℕ) (xs : List g.Item) → m ≡ length xs → drop (min n m) xs ≡ drop n xs
+drop_within n m xs same = ⊎_elim
+    (λ low. let k : min n m ≡ n = omega arith in ap (λ (i : ℕ). drop i xs) k)
+    (λ high. let k : min n m ≡ m = omega arith in ap (λ (i : ℕ). drop i xs) k ∙ drop_all m xs (omega arith) ∙ sym (drop_all n xs (omega arith)))
+    (cases_lt n m)
+
+pub rows_at : {Z : Type 0} (e l : List ℕ) (s : Start) (is : List g.Item) (rows : List (Vec Bool Z)) (k : ℕ) → RowsOf l (items e) rows → Begins e s is → k ≡ min s.nth (length rows - 1) → RowsOf l is (take (length rows - k) (drop k rows))
+rows_at e l s is rows k filled begins at =
+    let last : length rows - 1 ≡ length (items e) = omega (arith, filled.count) in
+    let same : drop k (items e) ≡ is = ap (λ (i : ℕ). drop i (items e)) at ∙ drop_within s.nth (length rows - 1) (items e) last ∙ sym begins.rest in
+    subst (RowsOf l is) (sym (take_rest rows k)) (subst (λ (js : List g.Item). RowsOf l js (drop k rows)) same (rows_behind l (items e) rows k (omega arith) filled))
+
+-- the first row tells of all the items
+pub first_knows : {Z : Type 0} (l : List ℕ) (is : List g.Item) (rows : List (Vec Bool Z)) (v : Vec Bool Z) (p : ℕ) → RowsOf l is rows → Some v ≡ slice_get rows 0 → IsCharBoundary l p → get_or (vec_items v) p false ≡ is_some (run l (leading is) p)
+first_knows l is [] v p h first edge = cc
+first_knows {Z} l is (w ∷ rows) v p h first edge =
+    let same : v ≡ w = cc in
+    subst (λ (u : Vec Bool Z). get_or (vec_items u) p false ≡ is_some (run l (leading is) p)) (sym same) ((h.each 0 (omega arith)).knows p edge)
+
+pub first_there : {Z : Type 0} (l : List ℕ) (is : List g.Item) (rows : List (Vec Bool Z)) → RowsOf l is rows → None ≡ slice_get rows 0 → ⊥
+first_there l is [] h none = omega (arith, h.count)
+first_there l is (v ∷ rows) h none = cc

@@ -5,6 +5,7 @@ ghost use Rattle.grammar.specs.Items.{Written};
 ghost use Rattle.ways.specs.Match.{run};
 ghost use Rattle.ways.specs.Meaning.{leading};
 ghost use Rattle.ways.specs.Matched.{Matches};
+ghost use Rattle.ways.specs.Starts.{Begins};
 ghost use Rattle.table.specs.Tables.{RowsOf, Filled};
 
 use crate::cell::{Rows, is_set};
@@ -42,17 +43,25 @@ fn follow(mut rows: &[Vec<bool>], items: &Items<'_>, from: &Cursor<'_>) -> Match
     Matched { end: end.place, brackets }
 }
 
+impl Table {
+    // The rows of the items of an alternative and of those behind it. The last row is that of no item.
+    fn rows_from(&self, start: &Start<'_>) -> &[Vec<bool>]
+        ensures { (e : List ℕ) (l : List ℕ) (is : List g.Item) → Filled e l self.now → Begins e start.now is → RowsOf l is result.now }
+    {
+        let last = self.rows.len().saturating_sub(1);
+        &self.rows[start.nth.min(last)..]
+    }
+}
+
 impl FindWay for Table {
     type Stop = Infallible;
 
     ghost serves = { λ t e l. Filled e l t };
 
     fn find_way(&mut self, start: &Start<'_>, from: &Cursor<'_>) -> Result<Option<Matched>, Infallible> {
-        // the last row is that of no item, which stands for all that are no more
-        let last = self.rows.len().saturating_sub(1);
-        let rows = &self.rows[start.nth.min(last)..];
-        match rows {
-            [first, ..] if is_set(first.as_slice(), from.place) => Ok(Some(follow(rows, &start.items, from))),
+        let rows = self.rows_from(start);
+        match rows.first() {
+            Some(row) if is_set(row, from.place) => Ok(Some(follow(rows, &start.items, from))),
             _ => Ok(None),
         }
     }

@@ -1,0 +1,41 @@
+use Rattle.std.proofs.Common.{◌≡◌, ℕ, Bool, Bor, List, [], ◌∷◌, ◌++◌, vec_items, Vec, sym, ap, ◌∙◌, subst}
+use Rattle.std.specs.List.{AllZip}
+use Rattle.std.specs.declared.alloc.Global.{Global}
+use Rattle.std.proofs.lemmas.List.{reverse-reverse, reverse-append}
+use Rattle.std.proofs.lemmas.Iterator.Adapters.{YieldsList-from_rev_slice}
+use Rattle.std.proofs.lemmas.Iterator.Consumers.{YieldsList-end}
+use mathlib.Core.List.{map, reverse}
+use Rattle.grammar.specs.declared.items.Item.{Item}
+use Rattle.grammar.specs.Items.{IsItem, Written}
+use Rattle.grammar.specs.Parse.{items}
+use Rattle.table.specs.Cells.{RowOn}
+use Rattle.table.specs.Tables.{RowsOf}
+use Rattle.table.proofs.Tables.{Growing, growing_more, legal_written}
+use Rattle.table.proofs.fill.Table.fill.Goals as goal
+
+pub loop-item-preserved : goal.loop-item-preserved
+loop-item-preserved c =
+    let l = c.args.line.now in
+    let item = c.in-Some.item in
+    let below = c.loop-item.below in
+    let here = c.in_ok-here.here in
+    let rows = vec_items c.loop-item.rows in
+    subst (Growing l (c.loop-item.yielded ++ item ∷ []) here) (sym c.in_ok-push.ensures.items)
+    (growing_more l c.loop-item.yielded item here below rows
+    (subst (λ (cells : List Bool). RowOn item.now l cells (vec_items here)) c.deref-in-loop-item.ensures.value c.in_ok-here.ensures) c.loop-item.invariant)
+
+pub returns : goal.returns
+returns c =
+    let l = c.args.line.now in
+    let e = c.args.expression.now.text.now in
+    let list = vec_items c.in_ok-items.items in
+    let below = c.loop-item.below in
+    let rows = vec_items c.loop-item.rows in
+    let written : Written c.items.result.rest.now (items e) = subst (λ (bytes : List ℕ). Written bytes (items e)) (sym c.items.ensures) (legal_written e c.args.expression.now.legal) in
+    let all = YieldsList-end (YieldsList-from_rev_slice list cc) c.loop-item.yielded _ c.loop-item.yielded_by _ _ c.in-None.is c.next.ensures.steps in
+    let listed : reverse (map (λ (y : Bor Item). y.now) c.loop-item.yielded) ≡ list = ap reverse all.0 ∙ reverse-reverse list in
+    let zip : AllZip IsItem list (items e) = c.in_ok-items.ensures (items e) written in
+    let filled : RowsOf l (items e) (below ∷ reverse rows) = c.loop-item.invariant.each (items e) (subst (λ (xs : List Item). AllZip IsItem xs (items e)) (sym listed) zip) in
+    let reversed : below ∷ reverse rows ≡ vec_items c.reverse.new.self =
+    sym (reverse-append rows (below ∷ [])) ∙ ap reverse (sym c.in_ok-push-2.ensures.items) ∙ sym c.reverse.ensures.items in
+    subst (RowsOf l (items e)) reversed filled
