@@ -15,6 +15,7 @@ use Rattle.ways.specs.Match.{Way, at_end, when, from, run}
 use Rattle.ways.specs.Meaning.{is_bar, leading, end_of}
 use Rattle.ways.specs.Matched.{is_bracket, brackets, Matches}
 use Rattle.ways.proofs.Reading.{First, first, none_written, seen_as}
+use Rattle.table.specs.declared.cell.Rows.{Rows}
 use Rattle.table.specs.Cells.{Knows}
 use Rattle.table.specs.Tables.{row_at, RowsOf}
 use Rattle.table.specs.Walks.{Goes}
@@ -67,7 +68,7 @@ when_some : (b : Bool) (o : Option Way) → is_some (when b o) ≡ true → when
 when_some true o e = refl
 when_some false o e = cc
 
-module _ {Z : Type 0} (l : List ℕ) (is : List g.Item) (p : ℕ) (rows : List (Vec Bool Z)) (bytes : List ℕ) (at : Cursor) (marks : List ℕ) (s : Walking l is p rows bytes at marks) where
+module _ {Z : Type 0} {l : List ℕ} {is : List g.Item} {p : ℕ} {rows : List (Vec Bool Z)} {bytes : List ℕ} {at : Cursor} {marks : List ℕ} (s : Walking l is p rows bytes at marks) where
   -- no item is left up to the next bar
   over : leading s.tail ≡ [] → (m : Matched) → at.place ≡ m.end → marks ≡ m.brackets.items → Matches (leading is) p (run l (leading is) p) (Some m)
   over none m ends same =
@@ -97,10 +98,6 @@ module _ {Z : Type 0} (l : List ℕ) (is : List g.Item) (p : ℕ) (rows : List (
 
     some_here : (y : g.Item) → read.head ≡ y → is_bar y ≡ false → is_some (run l (y ∷ leading read.tail) at.place) ≡ true
     some_here y same plain = subst (λ (js : List g.Item). is_some (run l js at.place) ≡ true) (split_as y same plain) s.some
-
-    -- the brackets that were passed with y, which ends at q
-    with_item : g.Item → ℕ → List ℕ
-    with_item y q = cond (is_bracket y) (s.passed ++ q ∷ []) s.passed
 
     notes_on : (b : Bool) (q : ℕ) (qs : List ℕ) → s.passed ++ cond b (q ∷ qs) qs ≡ cond b (s.passed ++ q ∷ []) s.passed ++ qs
     notes_on true q qs = sym (append_assoc s.passed (q ∷ []) qs)
@@ -150,16 +147,19 @@ module _ {Z : Type 0} (l : List ℕ) (is : List g.Item) (p : ℕ) (rows : List (
       pub walking_close : item ≡ i.Close → Walking l is p (drop 1 rows) others.rest.now at new
       walking_close is-close = passed g.closes (seen_as item i.Close read.head is-close read.here) refl at s.line refl new (noted_more marks s.passed new at.place pushed s.noted)
 
-    pub walking_take : (t : Piece) (times : Times) (here below : Vec Bool Z) (to : Cursor) → item ≡ i.Take t times → here ≡ get_or rows 0 here → below ≡ get_or rows 1 below → to.line.now ≡ at.line.now
-        → Goes t times at.line.now at.place (vec_items here) (vec_items below) to.place → Walking l is p (drop 1 rows) others.rest.now to marks
-    walking_take t times here below to is-take h b line goes =
+    pub walking_take : (t : Piece) (times : Times) (here below : Vec Bool Z) (cells : Rows) (to : Cursor) → item ≡ i.Take t times
+        → here ≡ get_or rows 0 here → cells.here.now ≡ vec_items here → below ≡ get_or rows 1 below → cells.below.now ≡ vec_items below
+        → to.line.now ≡ at.line.now → Goes t times at cells to.place → Walking l is p (drop 1 rows) others.rest.now to marks
+    walking_take t times here below cells to is-take h hs b bs line goes =
         let n = seen_as item (i.Take t times) read.head is-take read.here in
         let y = g.takes n.0 n.1 in
         let js = leading read.tail in
-        let first_row = subst (λ (z : g.Item). RowsOf l (z ∷ read.tail) rows) n.2 all_rows in
+        let rows_here = subst (λ (z : g.Item). RowsOf l (z ∷ read.tail) rows) n.2 all_rows in
+        let known_here : Knows l (y ∷ js) cells.here.now =
+        subst (Knows l (y ∷ js)) (sym (hs ∙ row_read rows 0 here (omega (arith, enough_rows)) h)) (rows_here.each 0 (omega arith)).knows in
+        let known_below : Knows l js cells.below.now =
+        subst (Knows l js) (sym (bs ∙ row_read rows 1 below (omega (arith, enough_rows)) b)) (rows_here.each 1 (omega arith)).knows in
         passed y n.2 refl to (line ∙ s.line)
-        (subst (λ (k : List ℕ). Goes t times k at.place (vec_items here) (vec_items below) to.place) s.line goes n.0 n.1 js n.3 n.4
-        (subst (λ (cells : List Bool). Knows l (y ∷ js) cells) (sym (row_read rows 0 here (omega (arith, enough_rows)) h)) (first_row.each 0 (omega arith)).knows)
-        (subst (λ (cells : List Bool). Knows l js cells) (sym (row_read rows 1 below (omega (arith, enough_rows)) b)) (first_row.each 1 (omega arith)).knows)
-        (some_here y n.2 refl))
+        (subst (λ (k : List ℕ). Knows k (y ∷ js) cells.here.now → Knows k js cells.below.now → is_some (run k (y ∷ js) at.place) ≡ true → run k (y ∷ js) at.place ≡ from to.place (run k js to.place)) s.line
+        (goes n.0 n.1 js n.3 n.4) known_here known_below (some_here y n.2 refl))
         marks s.noted

@@ -27,7 +27,7 @@ pub record Listing (is : List g.Item) (bytes : List ℕ) (listed : List Item) : 
   pub written : Written bytes tail
   pub goes : (xs : List Item) → AllZip IsItem xs tail → AllZip IsItem (listed ++ xs) is
 
-module _ (is : List g.Item) (bytes : List ℕ) (listed : List Item) (s : Listing is bytes listed) where
+module _ {is : List g.Item} {bytes : List ℕ} {listed : List Item} (s : Listing is bytes listed) where
   pub listing_more : (item : Item) (others : Items) → Reads bytes (Some (item, others)) → Listing is others.rest.now (listed ++ item ∷ [])
   listing_more item others reads =
       let f = first bytes item others reads s.tail s.written in
@@ -80,20 +80,9 @@ module _ {Z : Type 0} where
   pub record Growing (l : List ℕ) (done : List (Bor Item)) (below : Vec Bool Z) (rows : List (Vec Bool Z)) : Type 0 where
     pub each : (js : List g.Item) → AllZip IsItem (reverse (map (λ y. y.now) done)) js → RowsOf l js (below ∷ reverse rows)
 
-  pub growing_none : (l : List ℕ) (below : Vec Bool Z) → Row l [] (vec_items below) → Growing l [] below []
-  growing_none l below row = record { each = each }
-    where
-      alone : (n : ℕ) → n ≤ 0 → Row l (leading (drop n [])) (row_at (below ∷ []) n)
-      alone zero le = row
-      alone (suc n) le = absurd (omega arith)
-
-      each : (js : List g.Item) → AllZip IsItem [] js → RowsOf l js (below ∷ [])
-      each [] h = record { count = refl; each = alone }
-      each (y ∷ js) h = absurd h
-
-  pub growing_more : (l : List ℕ) (done : List (Bor Item)) (item : Bor Item) (here below : Vec Bool Z) (rows : List (Vec Bool Z))
-      → RowOn item.now l (vec_items below) (vec_items here) → Growing l done below rows → Growing l (done ++ item ∷ []) here (rows ++ below ∷ [])
-  growing_more l done item here below rows on h = record {
+  pub growing_more : {l : List ℕ} {done : List (Bor Item)} {below : Vec Bool Z} {rows : List (Vec Bool Z)} → Growing l done below rows
+      → (item : Bor Item) (here : Vec Bool Z) → RowOn item.now l (vec_items below) (vec_items here) → Growing l (done ++ item ∷ []) here (rows ++ below ∷ [])
+  growing_more {l} {done} {below} {rows} h item here on = record {
     each = λ js zip. subst (λ vs. RowsOf l js (here ∷ vs)) (sym (reverse-append rows (below ∷ [])))
         (each js (subst (λ xs. AllZip IsItem xs js) (ap reverse (map-append (λ y. y.now) done (item ∷ [])) ∙ reverse-append (map (λ y. y.now) done) (item.now ∷ [])) zip));
   }
@@ -110,19 +99,21 @@ drop_within n m xs same = ⊎_elim
     (λ high. let k : min n m ≡ m = omega arith in ap (λ (i : ℕ). drop i xs) k ∙ drop_all m xs (omega arith) ∙ sym (drop_all n xs (omega arith)))
     (cases_lt n m)
 
-pub rows_at : {Z : Type 0} (e l : List ℕ) (s : Start) (is : List g.Item) (rows : List (Vec Bool Z)) (k : ℕ) → RowsOf l (items e) rows → Begins e s is → k ≡ min s.nth (length rows - 1) → RowsOf l is (take (length rows - k) (drop k rows))
-rows_at e l s is rows k filled begins at =
+pub rows_at : {Z : Type 0} {e l : List ℕ} {s : Start} {is : List g.Item} {rows : List (Vec Bool Z)} → Begins e s is → RowsOf l (items e) rows
+    → (k : ℕ) → k ≡ min s.nth (length rows - 1) → RowsOf l is (take (length rows - k) (drop k rows))
+rows_at {Z} {e} {l} {s} {is} {rows} begins filled k at =
     let last : length rows - 1 ≡ length (items e) = omega (arith, filled.count) in
     let same : drop k (items e) ≡ is = ap (λ (i : ℕ). drop i (items e)) at ∙ drop_within s.nth (length rows - 1) (items e) last ∙ sym begins.rest in
     subst (RowsOf l is) (sym (take_rest rows k)) (subst (λ (js : List g.Item). RowsOf l js (drop k rows)) same (rows_behind l (items e) rows k (omega arith) filled))
 
 -- the first row tells of all the items
-pub first_knows : {Z : Type 0} (l : List ℕ) (is : List g.Item) (rows : List (Vec Bool Z)) (v : Vec Bool Z) (p : ℕ) → RowsOf l is rows → Some v ≡ slice_get rows 0 → IsCharBoundary l p → get_or (vec_items v) p false ≡ is_some (run l (leading is) p)
-first_knows l is [] v p h first edge = cc
-first_knows {Z} l is (w ∷ rows) v p h first edge =
+pub first_knows : {Z : Type 0} {l : List ℕ} {is : List g.Item} {rows : List (Vec Bool Z)} → RowsOf l is rows
+    → (v : Vec Bool Z) (p : ℕ) → Some v ≡ slice_get rows 0 → IsCharBoundary l p → get_or (vec_items v) p false ≡ is_some (run l (leading is) p)
+first_knows {rows = []} h v p first edge = cc
+first_knows {Z} {l} {is} {rows = w ∷ rows} h v p first edge =
     let same : v ≡ w = cc in
     subst (λ (u : Vec Bool Z). get_or (vec_items u) p false ≡ is_some (run l (leading is) p)) (sym same) ((h.each 0 (omega arith)).knows p edge)
 
-pub first_there : {Z : Type 0} (l : List ℕ) (is : List g.Item) (rows : List (Vec Bool Z)) → RowsOf l is rows → None ≡ slice_get rows 0 → ⊥
-first_there l is [] h none = omega (arith, h.count)
-first_there l is (v ∷ rows) h none = cc
+pub first_there : {Z : Type 0} {l : List ℕ} {is : List g.Item} {rows : List (Vec Bool Z)} → RowsOf l is rows → None ≡ slice_get rows 0 → ⊥
+first_there {rows = []} h none = omega (arith, h.count)
+first_there {rows = v ∷ rows} h none = cc

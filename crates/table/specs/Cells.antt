@@ -6,8 +6,10 @@ use Rattle.grammar.specs.declared.items.Times.{Times}
 use Rattle.grammar.specs.declared.items.Item.{Item}
 use Rattle.grammar.specs.Grammar as g
 use Rattle.grammar.specs.Items.{IsPiece, IsItem, times_of}
+use Rattle.ways.specs.declared.cursor.Cursor.{Cursor}
 use Rattle.ways.specs.Match.{run}
 use Rattle.ways.specs.Meaning.{leading}
+use Rattle.table.specs.declared.cell.Rows.{Rows}
 
 -- each cell of an edge of the line tells whether the items js match from there
 abbrev pub Knows : List ℕ → List g.Item → List Bool → Type 0
@@ -22,17 +24,19 @@ pub record Row (l : List ℕ) (js : List g.Item) (cells : List Bool) : Type 0 wh
   pub long : length cells ≡ suc (length l)
   pub knows : Knows l js cells
 
--- r tells whether the piece, as often as it is written, and any items js behind it match from p
-abbrev pub TellsTaken : Piece → Times → List ℕ → ℕ → List Bool → List Bool → Bool → Type 0
-TellsTaken t times l p here below r =
+-- r tells whether the piece, as often as it is written, and any items js behind it match from the cursor's place
+abbrev pub TellsTaken : Piece → Times → Cursor → Rows → Bool → Type 0
+TellsTaken t times at rows r =
     (x : g.Piece) (v : g.Times) (js : List g.Item) → IsPiece t x → times ≡ times_of v
-    → Knows l js below → KnowsAbove l p (g.takes x v ∷ js) here → r ≡ is_some (run l (g.takes x v ∷ js) p)
+    → Knows at.line.now js rows.below.now → KnowsAbove at.line.now at.place (g.takes x v ∷ js) rows.here.now
+    → r ≡ is_some (run at.line.now (g.takes x v ∷ js) at.place)
 
--- r tells whether the item, and any items js behind it, match from p up to the next bar
-abbrev pub Tells : Item → List ℕ → ℕ → List Bool → List Bool → Bool → Type 0
-Tells item l p here below r =
+-- r tells whether the item, and any items js behind it, match from there up to the next bar
+abbrev pub Tells : Item → Cursor → Rows → Bool → Type 0
+Tells item at rows r =
     (y : g.Item) (js : List g.Item) → IsItem item y
-    → Knows l (leading js) below → KnowsAbove l p (leading (y ∷ js)) here → r ≡ is_some (run l (leading (y ∷ js)) p)
+    → Knows at.line.now (leading js) rows.below.now → KnowsAbove at.line.now at.place (leading (y ∷ js)) rows.here.now
+    → r ≡ is_some (run at.line.now (leading (y ∷ js)) at.place)
 
 -- a row of any items js gives one of the item and them
 abbrev pub RowOn : Item → List ℕ → List Bool → List Bool → Type 0

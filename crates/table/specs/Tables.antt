@@ -1,8 +1,13 @@
 -- What a table remembers of an expression and a line. Assumes nothing.
 use Rattle.std.specs.Prelude.{◌≡◌, ℕ, zero, suc, ◌≤◌, Bool, List, [], ◌∷◌, length, drop, vec_items, Vec}
+use Rattle.std.specs.List.{AllZip}
+use Rattle.grammar.specs.declared.items.Item.{Item}
 use Rattle.grammar.specs.Grammar as g
+use Rattle.grammar.specs.Items.{IsItem, Written}
 use Rattle.grammar.specs.Parse.{items}
+use Rattle.ways.specs.declared.start.Start.{Start}
 use Rattle.ways.specs.Meaning.{leading}
+use Rattle.ways.specs.Starts.{Begins}
 use Rattle.table.specs.declared.fill.Table.{Table}
 use Rattle.table.specs.Cells.{Row}
 
@@ -17,6 +22,14 @@ pub record RowsOf {Z : Type 0} (l : List ℕ) (is : List g.Item) (rows : List (V
   pub count : length rows ≡ suc (length is)
   pub each : (n : ℕ) → n ≤ length is → Row l (leading (drop n is)) (row_at rows n)
 
+-- the items that are written so are listed
+abbrev pub Lists : List ℕ → List Item → Type 0
+Lists bytes listed = (is : List g.Item) → Written bytes is → AllZip IsItem listed is
+
 -- the rows of all items of e
 abbrev pub Filled : List ℕ → List ℕ → Table → Type 0
 Filled e l t = RowsOf l (items e) (vec_items t.rows)
+
+-- where the table is filled, the rows of an alternative and of those behind it, if one begins at s
+abbrev pub RowsFrom : {Z : Type 0} → Table → Start → List (Vec Bool Z) → Type 0
+RowsFrom t s rows = (e l : List ℕ) (is : List g.Item) → Filled e l t → Begins e s is → RowsOf l is rows

@@ -24,7 +24,7 @@ impl<'r> Rows<'r> {
     // Whether the piece, as often as `times` says, and the items behind it match from the place. Of the row `here` the cells of
     // the places above are known.
     fn taken(&self, piece: &Piece<'_>, times: Times, from: &Cursor<'_>) -> bool
-        ensures { TellsTaken piece.now times from.now.line.now from.now.place self.now.here.now self.now.below.now result }
+        ensures { TellsTaken piece.now times from.now self.now result }
     {
         match (times, from.step(piece)) {
             (Times::Once, Some(next)) => is_set(self.below, next.place),
@@ -38,7 +38,7 @@ impl<'r> Rows<'r> {
 
     // Whether the item and those behind it match from the place. Of the row `here` the cells of the places above are known.
     pub(crate) fn cell(&self, item: &Item<'_>, from: &Cursor<'_>) -> bool
-        ensures { Tells item.now from.now.line.now from.now.place self.now.here.now self.now.below.now result }
+        ensures { Tells item.now from.now self.now result }
     {
         match item {
             Item::Take(piece, times) => self.taken(piece, *times, from),

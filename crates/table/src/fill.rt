@@ -1,9 +1,7 @@
 // A table of which items match from which places, filled from the last item to the first.
-ghost use Rattle.std.specs.Prelude.{[], List, IfOk};
-ghost use Rattle.std.specs.List.{AllZip};
-ghost use Rattle.grammar.specs.Grammar as g;
-ghost use Rattle.grammar.specs.Items.{IsItem, Written};
+ghost use Rattle.std.specs.Prelude.{[], IfOk};
 ghost use Rattle.table.specs.Cells.{Row};
+ghost use Rattle.table.specs.Tables.{Lists};
 
 use crate::row::row;
 use grammar::expression::Expression;
@@ -14,12 +12,12 @@ use std::alloc::{AllocError, Global};
 #[derive(Drop)]
 pub struct Table {
     // the row n is that of the items from the nth on; the last one is that of no item
-    pub rows: Vec<Vec<bool>>,
+    pub(crate) rows: Vec<Vec<bool>>,
 }
 
 // The items, in a list.
 fn list<'a>(heap: Global, items: Items<'a>) -> Result<Vec<Item<'a>>, AllocError>
-    ensures { IfOk result (λ v. (is : List g.Item) → Written items.entry.rest.now is → AllZip IsItem v.items is) }
+    ensures { IfOk result (λ v. Lists items.entry.rest.now v.items) }
 {
     let mut list = Vec::new(heap);
     let mut left = items;

@@ -11,7 +11,7 @@ impl<'r> Rows<'r> {
     // Where the piece ends, taken as often as can be from the place on.
     fn most<'a>(&self, piece: &Piece<'_>, from: &Cursor<'a>) -> Cursor<'a>
         ensures same { result.line.now ≡ from.now.line.now }
-        ensures goes { GoesMost piece.now from.now.line.now from.now.place self.now.here.now self.now.below.now result.place }
+        ensures goes { GoesMost piece.now from.now self.now result.place }
     {
         let mut end = *from;
         while let Some(next) = end.step(piece) {
@@ -26,7 +26,7 @@ impl<'r> Rows<'r> {
     // Where the piece ends on the preferred way from the place, if there is one.
     pub(crate) fn take<'a>(&self, piece: &Piece<'_>, times: Times, from: &Cursor<'a>) -> Cursor<'a>
         ensures same { result.line.now ≡ from.now.line.now }
-        ensures goes { Goes piece.now times from.now.line.now from.now.place self.now.here.now self.now.below.now result.place }
+        ensures goes { Goes piece.now times from.now self.now result.place }
     {
         match (times, from.step(piece)) {
             (Times::Once, Some(next)) => next,

@@ -1,12 +1,6 @@
 // The preferred way through a filled table.
-ghost use Rattle.std.specs.Prelude.{◌≡◌, ℕ, true, List, is_some, Some as Just};
-ghost use Rattle.grammar.specs.Grammar as g;
-ghost use Rattle.grammar.specs.Items.{Written};
-ghost use Rattle.ways.specs.Match.{run};
-ghost use Rattle.ways.specs.Meaning.{leading};
-ghost use Rattle.ways.specs.Matched.{Matches};
-ghost use Rattle.ways.specs.Starts.{Begins};
-ghost use Rattle.table.specs.Tables.{RowsOf, Filled};
+ghost use Rattle.table.specs.Tables.{Filled, RowsFrom};
+ghost use Rattle.table.specs.Walks.{Follows};
 
 use crate::cell::{Rows, is_set};
 use crate::fill::Table;
@@ -19,7 +13,7 @@ use ways::start::Start;
 
 // The way of the items from the place up to the next bar, where there is one; the rows are those of the items.
 fn follow(mut rows: &[Vec<bool>], items: &Items<'_>, from: &Cursor<'_>) -> Matched
-    ensures { (is : List g.Item) → Written items.now.rest.now is → RowsOf from.now.line.now is rows.now → is_some (run from.now.line.now (leading is) from.now.place) ≡ true → Matches (leading is) from.now.place (run from.now.line.now (leading is) from.now.place) (Just result) }
+    ensures { Follows rows.now items.now.rest.now from.now result }
 {
     let mut end = *from;
     let mut brackets = ArrayVec::new();
@@ -46,7 +40,7 @@ fn follow(mut rows: &[Vec<bool>], items: &Items<'_>, from: &Cursor<'_>) -> Match
 impl Table {
     // The rows of the items of an alternative and of those behind it. The last row is that of no item.
     fn rows_from(&self, start: &Start<'_>) -> &[Vec<bool>]
-        ensures { (e : List ℕ) (l : List ℕ) (is : List g.Item) → Filled e l self.now → Begins e start.now is → RowsOf l is result.now }
+        ensures { RowsFrom self.now start.now result.now }
     {
         let last = self.rows.len().saturating_sub(1);
         &self.rows[start.nth.min(last)..]

@@ -1,6 +1,4 @@
-use Rattle.std.proofs.Common.{List, [], ◌∷◌, ◌++◌, ℕ, length, vec_items}
-use Rattle.std.specs.List.{AllZip}
-use Rattle.grammar.specs.declared.items.Item.{Item}
+use Rattle.std.proofs.Common.{ℕ, List, length, vec_items}
 use Rattle.grammar.specs.Grammar as g
 use Rattle.grammar.specs.Items.{Written}
 use Rattle.table.proofs.Tables.{Listing}

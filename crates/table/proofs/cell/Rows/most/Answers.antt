@@ -1,4 +1,4 @@
-use Rattle.std.proofs.Common.{◌≡◌, true, false, ◌||◌, get_or, sym, ap, ◌∙◌}
+use Rattle.std.proofs.Common.{sym, ◌∙◌}
 use Rattle.table.proofs.Cells.{or_then, or_else}
 use Rattle.table.proofs.Walks.{mosts_more, mosts_end, mosts_stop}
 use Rattle.table.proofs.cell.Rows.most.Goals as goal
@@ -6,14 +6,12 @@ use Rattle.table.proofs.cell.Rows.most.Goals.{else-not-is_set-via-then-not-is_se
 
 pub returns-then-not-is_set-2-clause-goes : goal.returns-then-not-is_set-2-clause-goes
 returns-then-not-is_set-2-clause-goes c =
-    mosts_end c.args.piece.now c.args.from.now.line.now c.args.from.now.place c.args.self.now.here.now c.args.self.now.below.now c.loop-next.end c.loop-next.invariant
-    c.step.result c.step.ensures.steps c.in-Some.next c.in-Some.is c.in-Some.ensures.on.0
+    mosts_end c.loop-next.invariant c.in-Some.next c.in-Some.ensures.steps c.in-Some.ensures.on.0
     (sym (or_else _ _ _ _ c.is_set.ensures c.if-not-is_set.true c.is_set-then-not-is_set.ensures) ∙ c.if-not-is_set-2.true)
 
 pub loop-next-preserved : goal.loop-next-preserved
 loop-next-preserved c =
-    mosts_more c.args.piece.now c.args.from.now.line.now c.args.from.now.place c.args.self.now.here.now c.args.self.now.below.now c.loop-next.end c.loop-next.invariant
-    c.step.result c.step.ensures.steps c.in-Some.next c.in-Some.is c.in-Some.ensures.on.0
+    mosts_more c.loop-next.invariant c.in-Some.next c.in-Some.ensures.steps c.in-Some.ensures.on.0
     (elim c.else-not-is_set.branch [
       | else-not-is_set-via-then-not-is_set+else-not-is_set-2 w ↦
           sym (or_else _ _ _ _ c.is_set.ensures w.if-not-is_set.true w.is_set-then-not-is_set.ensures) ∙ w.if-not-is_set-2.false
@@ -21,6 +19,4 @@ loop-next-preserved c =
     ])
 
 pub returns-clause-goes : goal.returns-clause-goes
-returns-clause-goes c =
-    mosts_stop c.args.piece.now c.args.from.now.line.now c.args.from.now.place c.args.self.now.here.now c.args.self.now.below.now c.loop-next.end c.loop-next.invariant
-    c.step.result c.step.ensures.steps c.in_default.is
+returns-clause-goes c = mosts_stop c.loop-next.invariant c.in_default.ensures.steps

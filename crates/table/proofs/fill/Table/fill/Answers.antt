@@ -15,14 +15,7 @@ use Rattle.table.proofs.fill.Table.fill.Goals as goal
 
 pub loop-item-preserved : goal.loop-item-preserved
 loop-item-preserved c =
-    let l = c.args.line.now in
-    let item = c.in-Some.item in
-    let below = c.loop-item.below in
-    let here = c.in_ok-here.here in
-    let rows = vec_items c.loop-item.rows in
-    subst (Growing l (c.loop-item.yielded ++ item ∷ []) here) (sym c.in_ok-push.ensures.items)
-    (growing_more l c.loop-item.yielded item here below rows
-    (subst (λ (cells : List Bool). RowOn item.now l cells (vec_items here)) c.deref-in-loop-item.ensures.value c.in_ok-here.ensures) c.loop-item.invariant)
+    rw c.in_ok-push.ensures.items (growing_more c.loop-item.invariant c.in-Some.item c.in_ok-here.here (rw (← c.deref-in-loop-item.ensures.value) c.in_ok-here.ensures))
 
 pub returns : goal.returns
 returns c =
