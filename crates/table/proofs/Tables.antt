@@ -1,133 +1,119 @@
 -- A table grows by a row, for one item more at the front. Assumes nothing.
-use Rattle.std.proofs.Common.{◌≡◌, ℕ, zero, suc, ◌+◌, ◌-◌, ◌<◌, ◌≤◌, Bool, true, false, List, [], ◌∷◌, ◌++◌, length, get_or, drop, replicate, vec_items, Vec, sym, refl, ap, ◌∙◌, subst, ⊎_elim, le_of_suc-le-suc, arith}
-use Rattle.std.proofs.lemmas.List.{length-append, length-drop, length-replicate, get_or_append_left, get_or_push, get_or-replicate, drop_all, drop-drop, drop_more, replicate_more}
+use Rattle.std.proofs.Common.{◌≡◌, ℕ, zero, suc, ◌+◌, ◌-◌, ◌<◌, ◌≤◌, min, Bool, false, is_some, List, [], ◌∷◌, ◌++◌, length, get_or, take, drop, vec_items, Vec, Bor, Some, None, Option, sym, refl, ap, ◌∙◌, subst, ⊎_elim, append_assoc, le_of_suc-le-suc, arith}
+use Rattle.std.specs.Str.{IsCharBoundary}
+use Rattle.std.specs.List.{AllZip, slice_get}
+use mathlib.Core.List.{map, reverse}
+use Rattle.std.proofs.lemmas.List.{append-nil, map-append, reverse-append, length-drop, drop-drop, drop_all, take_rest}
 use Rattle.std.proofs.lemmas.Bool.{cases_lt}
 use Rattle.grammar.specs.declared.items.Item.{Item}
+use Rattle.grammar.specs.declared.items.Items.{Items}
 use Rattle.grammar.specs.Grammar as g
-use Rattle.grammar.specs.Items.{Reads}
-use Rattle.grammar.specs.Parse.{items}
-use Rattle.grammar.proofs.Parsed.{one_way}
+use Rattle.grammar.specs.Items.{IsItem, Written, Reads}
+use Rattle.grammar.specs.Parse.{items, Spelled}
+use Rattle.grammar.specs.Reader.{refusal}
+use Rattle.grammar.proofs.Judging.{spelled}
+use Rattle.ways.specs.declared.start.Start.{Start}
+use Rattle.ways.specs.Match.{run}
 use Rattle.ways.specs.Meaning.{leading}
-use Rattle.ways.specs.Reading.{WrittenAt}
+use Rattle.ways.specs.Starts.{Begins}
 use Rattle.ways.proofs.Reading.{first, none_written}
 use Rattle.table.specs.Cells.{Row, RowOn}
-use Rattle.table.specs.declared.fill.Table.{Table}
-use Rattle.table.specs.Tables.{row_at, Stand, Filled}
+use Rattle.table.specs.Tables.{row_at, RowsOf}
 
--- ===== the row of a number
+-- ===== the list of the items
+-- of the items is some are listed, and the others are left, written so
+pub record Listing (is : List g.Item) (bytes : List ℕ) (listed : List Item) : Type 0 where
+  pub tail : List g.Item
+  pub written : Written bytes tail
+  pub goes : (xs : List Item) → AllZip IsItem xs tail → AllZip IsItem (listed ++ xs) is
+
+module _ {is : List g.Item} {bytes : List ℕ} {listed : List Item} (s : Listing is bytes listed) where
+  pub listing_more : (item : Item) (others : Items) → Reads bytes (Some (item, others)) → Listing is others.rest.now (listed ++ item ∷ [])
+  listing_more item others reads =
+      let f = first bytes item others reads s.tail s.written in
+      record {
+        tail = f.tail;
+        written = f.behind;
+        goes = λ xs h. subst (λ ys. AllZip IsItem ys is) (sym (append_assoc listed (item ∷ []) xs))
+            (s.goes (item ∷ xs) (subst (AllZip IsItem (item ∷ xs)) (sym f.split) (f.here, h)));
+      }
+
+  pub listing_all : Reads bytes None → AllZip IsItem listed is
+  listing_all reads =
+      subst (λ ys. AllZip IsItem ys is) (append-nil listed)
+      (s.goes [] (subst (AllZip IsItem []) (sym (none_written bytes reads s.tail s.written)) tt))
+
+-- an expression that is not refused is written by its items
+pub legal_written : (e : List ℕ) → refusal e ≡ None → Written e (items e)
+legal_written e legal = let s = subst (Spelled e) legal (spelled e) in record { opened = 0; depth = 0; good = s.0; written = s.1 }
+
+-- ===== the rows of a list
 module _ {Z : Type 0} where
-  pub row_read : (rows : List (Vec Bool Z)) (r : ℕ) (v : Vec Bool Z) → r < length rows → v ≡ get_or rows r v → vec_items v ≡ row_at rows r
-  row_read [] r v lt is = absurd (omega arith)
+  pub row_read : (rows : List (Vec Bool Z)) (n : ℕ) (v : Vec Bool Z) → n < length rows → v ≡ get_or rows n v → vec_items v ≡ row_at rows n
+  row_read [] n v lt is = absurd (omega arith)
   row_read (w ∷ rows) zero v lt is = ap vec_items is
-  row_read (w ∷ rows) (suc r) v lt is = row_read rows r v (le_of_suc-le-suc lt) is
+  row_read (w ∷ rows) (suc n) v lt is = row_read rows n v (le_of_suc-le-suc lt) is
 
-  pub row_past : (rows : List (Vec Bool Z)) (r : ℕ) → length rows ≤ r → [] ≡ row_at rows r
-  row_past [] r le = refl
-  row_past (w ∷ rows) zero le = absurd (omega arith)
-  row_past (w ∷ rows) (suc r) le = row_past rows r (le_of_suc-le-suc le)
+  row_behind : (rows : List (Vec Bool Z)) (k n : ℕ) → row_at (drop k rows) n ≡ row_at rows (k + n)
+  row_behind rows zero n = ap (row_at rows) (omega arith)
+  row_behind [] (suc k) n = refl
+  row_behind (w ∷ rows) (suc k) n = let more : suc (k + n) ≡ suc k + n = omega arith in row_behind rows k n ∙ ap (row_at (w ∷ rows)) more
 
-  pub row_last : (rows : List (Vec Bool Z)) (v : Vec Bool Z) → row_at (rows ++ v ∷ []) (length rows) ≡ vec_items v
-  row_last [] v = refl
-  row_last (w ∷ rows) v = row_last rows v
-
-  pub row_before : (rows : List (Vec Bool Z)) (v : Vec Bool Z) (r : ℕ) → r < length rows → row_at (rows ++ v ∷ []) r ≡ row_at rows r
-  row_before [] v r lt = absurd (omega arith)
-  row_before (w ∷ rows) v zero lt = refl
-  row_before (w ∷ rows) v (suc r) lt = row_before rows v r (le_of_suc-le-suc lt)
-
--- ===== no items match from everywhere
-pub row_of_none : (l : List ℕ) (cells : List Bool) → cells ≡ replicate (length l) true ++ true ∷ [] → Row l [] cells
-row_of_none l cells is =
-    let all : cells ≡ replicate (length l + 1) true = is ∙ replicate_more (length l) true in
-    record {
-      long = ap length all ∙ length-replicate (length l + 1) true ∙ omega arith;
-      knows = λ p b. ap (λ (cs : List Bool). get_or cs p false) all ∙ get_or-replicate (length l + 1) p true false (omega (arith, b.0));
-    }
-
--- ===== where the items stand
--- those before `at` stand at the places
-pub record Standing (e places : List ℕ) (at : ℕ) : Type 0 where
-  pub few : length places ≤ length (items e)
-  pub each : (k : ℕ) → k < length places → WrittenAt e (get_or places k 0) (drop k (items e))
-  pub rest : WrittenAt e at (drop (length places) (items e))
-
-module _ (e : List ℕ) where
-  pub standing_none : g.Legal e → Standing e [] 0
-  standing_none (is, good, written) = record {
-    few = omega arith;
-    each = λ k lt. absurd (omega arith);
-    rest = subst (WrittenAt e 0) (one_way e 0 0 is good written) (record { opened = 0; depth = 0; good = good; written = written });
+  -- the rows of the items from the kth on
+  pub rows_behind : (l : List ℕ) (is : List g.Item) (rows : List (Vec Bool Z)) (k : ℕ) → k ≤ length is → RowsOf l is rows → RowsOf l (drop k is) (drop k rows)
+  rows_behind l is rows k le h = record {
+    count = omega (arith, length-drop k is, length-drop k rows, h.count);
+    each = λ n in'. subst (Row l (leading (drop n (drop k is)))) (sym (row_behind rows k n))
+        (subst (λ (js : List g.Item). Row l (leading js) (row_at rows (k + n))) (sym (drop-drop n k is)) (h.each (k + n) (omega (arith, length-drop k is))));
   }
 
-  pub standing_more : (places : List ℕ) (at : ℕ) (item : Item) (next : ℕ) → at < length e → Reads e at item next → Standing e places at → Standing e (places ++ at ∷ []) next
-  standing_more places at item next lt reads s =
-      let f = first e at item next lt reads (drop (length places) (items e)) s.rest in
-      let long : length (places ++ at ∷ []) ≡ length places + 1 = length-append places (at ∷ []) in
-      let some : length (drop (length places) (items e)) ≡ suc (length f.tail) = ap length f.split in
-      let tail : f.tail ≡ drop (length (places ++ at ∷ [])) (items e) =
-      ap (drop 1) (sym f.split) ∙ drop-drop 1 (length places) (items e) ∙ ap (λ (n : ℕ). drop n (items e)) (sym long) in
-      record {
-        few = omega (arith, length-drop (length places) (items e));
-        each = λ k lt. ⊎_elim
-            (λ low. subst (λ (i : ℕ). WrittenAt e i (drop k (items e))) (sym (get_or_append_left places (at ∷ []) 0 k low)) (s.each k low))
-            (λ high. let same : length places ≡ k = omega arith in
-            subst (λ (i : ℕ). WrittenAt e i (drop k (items e))) (sym (get_or_push places at 0 k same)) (subst (λ (n : ℕ). WrittenAt e at (drop n (items e))) same s.rest))
-            (cases_lt k (length places));
-        rest = subst (WrittenAt e next) tail f.behind;
-      }
+  -- ===== a row more
+  pub rows_more : (l : List ℕ) (item : Item) (y : g.Item) (js : List g.Item) (here below : Vec Bool Z) (rows : List (Vec Bool Z))
+      → IsItem item y → RowOn item l (vec_items below) (vec_items here) → RowsOf l js (below ∷ rows) → RowsOf l (y ∷ js) (here ∷ below ∷ rows)
+  rows_more l item y js here below rows is on h = record { count = ap suc h.count; each = each }
+    where
+      each : (n : ℕ) → n ≤ length (y ∷ js) → Row l (leading (drop n (y ∷ js))) (row_at (here ∷ below ∷ rows) n)
+      each zero le = on y js is (h.each 0 (omega arith))
+      each (suc n) le = h.each n (le_of_suc-le-suc le)
 
-  pub standing_all : (places : List ℕ) (at : ℕ) → length e ≤ at → Standing e places at → Stand e places
-  standing_all places at le s =
-      let none = ap length (none_written e at (drop (length places) (items e)) le s.rest) in
-      record { all = omega (arith, length-drop (length places) (items e), s.few); each = s.each }
+  -- the rows of the last items, which are listed backwards; the first of them is below
+  pub record Growing (l : List ℕ) (done : List (Bor Item)) (below : Vec Bool Z) (rows : List (Vec Bool Z)) : Type 0 where
+    pub each : (js : List g.Item) → AllZip IsItem (reverse (map (λ y. y.now) done)) js → RowsOf l js (below ∷ reverse rows)
 
--- each place lies within
-pub within_more : (n : ℕ) (places : List ℕ) (at : ℕ) → at < n → ((k : ℕ) → k < length places → get_or places k 0 < n) → (k : ℕ) → k < length (places ++ at ∷ []) → get_or (places ++ at ∷ []) k 0 < n
-within_more n places at lt within k h = ⊎_elim
-    (λ low. let same = get_or_append_left places (at ∷ []) 0 k low in omega (arith, within k low))
-    (λ high. let same = get_or_push places at 0 k (omega (arith, length-append places (at ∷ []))) in omega arith)
-    (cases_lt k (length places))
+  pub growing_more : {l : List ℕ} {done : List (Bor Item)} {below : Vec Bool Z} {rows : List (Vec Bool Z)} → Growing l done below rows
+      → (item : Bor Item) (here : Vec Bool Z) → RowOn item.now l (vec_items below) (vec_items here) → Growing l (done ++ item ∷ []) here (rows ++ below ∷ [])
+  growing_more {l} {done} {below} {rows} h item here on = record {
+    each = λ js zip. subst (λ vs. RowsOf l js (here ∷ vs)) (sym (reverse-append rows (below ∷ [])))
+        (each js (subst (λ xs. AllZip IsItem xs js) (ap reverse (map-append (λ y. y.now) done (item ∷ [])) ∙ reverse-append (map (λ y. y.now) done) (item.now ∷ [])) zip));
+  }
+    where
+      each : (js : List g.Item) → AllZip IsItem (item.now ∷ reverse (map (λ y. y.now) done)) js → RowsOf l js (here ∷ below ∷ reverse rows)
+      each [] zip = absurd zip
+      each (y ∷ js) zip = rows_more l item.now y js here below (reverse rows) zip.0 on (h.each js zip.1)
 
--- ===== a row more
--- the items from number j on have their rows
-pub record Growing {Z : Type 0} (e l : List ℕ) (rows : List (Vec Bool Z)) (j : ℕ) : Type 0 where
-  pub count : length rows + j ≡ suc (length (items e))
-  pub each : (k : ℕ) → j ≤ k → Row l (leading (drop k (items e))) (row_at rows (length (drop k (items e))))
-
+-- ===== the rows of an alternative
 -- behind the last item there is none
-none_past : (e : List ℕ) (k : ℕ) → length (items e) ≤ k → [] ≡ drop k (items e)
-none_past e k le = sym (drop_all k (items e) le)
+drop_within : (n m : ℕ) (xs : List g.Item) → m ≡ length xs → drop (min n m) xs ≡ drop n xs
+drop_within n m xs same = ⊎_elim
+    (λ low. let k : min n m ≡ n = omega arith in ap (λ (i : ℕ). drop i xs) k)
+    (λ high. let k : min n m ≡ m = omega arith in ap (λ (i : ℕ). drop i xs) k ∙ drop_all m xs (omega arith) ∙ sym (drop_all n xs (omega arith)))
+    (cases_lt n m)
 
-module _ {Z : Type 0} (e l : List ℕ) where
-  pub growing_none : (v : Vec Bool Z) (j : ℕ) → j ≡ length (items e) → Row l [] (vec_items v) → Growing e l (v ∷ []) j
-  growing_none v j is row = record {
-    count = omega arith;
-    each = λ k le. subst (λ (js : List g.Item). Row l (leading js) (row_at (v ∷ []) (length js))) (none_past e k (omega arith)) row;
-  }
+pub rows_at : {Z : Type 0} {e l : List ℕ} {s : Start} {is : List g.Item} {rows : List (Vec Bool Z)} → Begins e s is → RowsOf l (items e) rows
+    → (k : ℕ) → k ≡ min s.nth (length rows - 1) → RowsOf l is (take (length rows - k) (drop k rows))
+rows_at {Z} {e} {l} {s} {is} {rows} begins filled k at =
+    let last : length rows - 1 ≡ length (items e) = omega (arith, filled.count) in
+    let same : drop k (items e) ≡ is = ap (λ (i : ℕ). drop i (items e)) at ∙ drop_within s.nth (length rows - 1) (items e) last ∙ sym begins.rest in
+    subst (RowsOf l is) (sym (take_rest rows k)) (subst (λ (js : List g.Item). RowsOf l js (drop k rows)) same (rows_behind l (items e) rows k (omega arith) filled))
 
-  pub growing_more : (rows : List (Vec Bool Z)) (j at : ℕ) (below : List Bool) (v : Vec Bool Z) → 0 < j → j ≤ length (items e)
-      → below ≡ row_at rows (length rows - 1) → WrittenAt e at (drop (j - 1) (items e)) → RowOn e at l below (vec_items v) → Growing e l rows j → Growing e l (rows ++ v ∷ []) (j - 1)
-  growing_more rows j at below v pos le is w on s =
-      let here : drop (j - 1) (items e) ≡ get_or (items e) (j - 1) g.bar ∷ drop j (items e) =
-      drop_more (items e) (j - 1) g.bar (omega arith) ∙ ap (λ (n : ℕ). get_or (items e) (j - 1) g.bar ∷ drop n (items e)) (omega arith) in
-      let last : length rows - 1 ≡ length (drop j (items e)) = omega (arith, length-drop j (items e), s.count) in
-      let under : Row l (leading (drop j (items e))) below =
-      subst (Row l (leading (drop j (items e)))) (sym (is ∙ ap (row_at rows) last)) (s.each j (omega arith)) in
-      let new : Row l (leading (drop (j - 1) (items e))) (vec_items v) =
-      subst (λ (js : List g.Item). Row l (leading js) (vec_items v)) (sym here) (on (get_or (items e) (j - 1) g.bar) (drop j (items e)) (subst (WrittenAt e at) here w) under) in
-      record {
-        count = omega (arith, length-append rows (v ∷ []), s.count);
-        each = λ k lt. ⊎_elim
-            (λ low.
-            let same : k ≡ j - 1 = omega arith in
-            let top : length rows ≡ length (drop k (items e)) = omega (arith, length-drop k (items e), s.count) in
-            subst (λ (n : ℕ). Row l (leading (drop n (items e))) (row_at (rows ++ v ∷ []) (length (drop k (items e))))) (sym same)
-            (subst (Row l (leading (drop (j - 1) (items e)))) (sym (row_last rows v) ∙ ap (row_at (rows ++ v ∷ [])) top) new))
-            (λ high.
-            let lower : length (drop k (items e)) < length rows = omega (arith, length-drop k (items e), s.count) in
-            subst (Row l (leading (drop k (items e)))) (sym (row_before rows v (length (drop k (items e))) lower)) (s.each k high))
-            (cases_lt k j);
-      }
+-- the first row tells of all the items
+pub first_knows : {Z : Type 0} {l : List ℕ} {is : List g.Item} {rows : List (Vec Bool Z)} → RowsOf l is rows
+    → (v : Vec Bool Z) (p : ℕ) → Some v ≡ slice_get rows 0 → IsCharBoundary l p → get_or (vec_items v) p false ≡ is_some (run l (leading is) p)
+first_knows {rows = []} h v p first edge = cc
+first_knows {Z} {l} {is} {rows = w ∷ rows} h v p first edge =
+    let same : v ≡ w = cc in
+    subst (λ (u : Vec Bool Z). get_or (vec_items u) p false ≡ is_some (run l (leading is) p)) (sym same) ((h.each 0 (omega arith)).knows p edge)
 
-pub growing_all : (e l : List ℕ) (t : Table) (j : ℕ) → j ≤ 0 → Growing e l (vec_items t.rows) j → Filled e l t
-growing_all e l t j le s = record { count = omega (arith, s.count); rows = λ k. s.each k (omega arith) }
+pub first_there : {Z : Type 0} {l : List ℕ} {is : List g.Item} {rows : List (Vec Bool Z)} → RowsOf l is rows → None ≡ slice_get rows 0 → ⊥
+first_there {rows = []} h none = omega (arith, h.count)
+first_there {rows = v ∷ rows} h none = cc

@@ -5,11 +5,11 @@ use Rattle.grammar.specs.declared.items.Piece.{Piece}
 use Rattle.grammar.specs.declared.items.Times.{Times}
 use Rattle.grammar.specs.declared.items.Item.{Item}
 use Rattle.grammar.specs.Grammar as g
-use Rattle.grammar.specs.Items.{times_of, token_of}
+use Rattle.grammar.specs.Items.{IsPiece, IsItem, times_of}
+use Rattle.ways.specs.declared.cursor.Cursor.{Cursor}
 use Rattle.ways.specs.Match.{run}
 use Rattle.ways.specs.Meaning.{leading}
-use Rattle.ways.specs.Pieces.{PieceAt}
-use Rattle.ways.specs.Reading.{WrittenAt}
+use Rattle.table.specs.declared.cell.Rows.{Rows}
 
 -- each cell of an edge of the line tells whether the items js match from there
 abbrev pub Knows : List ℕ → List g.Item → List Bool → Type 0
@@ -24,18 +24,20 @@ pub record Row (l : List ℕ) (js : List g.Item) (cells : List Bool) : Type 0 wh
   pub long : length cells ≡ suc (length l)
   pub knows : Knows l js cells
 
--- r tells whether the piece at i, as often as it is written, and any items js behind it match from p
-abbrev pub TellsTaken : List ℕ → ℕ → Piece → Times → List ℕ → ℕ → List Bool → List Bool → Bool → Type 0
-TellsTaken e i t times l p below here r =
-    (x : g.Piece) (v : g.Times) (js : List g.Item) → PieceAt e i t x → times ≡ times_of v
-    → Knows l js below → KnowsAbove l p (g.takes x v ∷ js) here → r ≡ is_some (run l (g.takes x v ∷ js) p)
+-- r tells whether the piece, as often as it is written, and any items js behind it match from the cursor's place
+abbrev pub TellsTaken : Piece → Times → Cursor → Rows → Bool → Type 0
+TellsTaken t times at rows r =
+    (x : g.Piece) (v : g.Times) (js : List g.Item) → IsPiece t x → times ≡ times_of v
+    → Knows at.line.now js rows.below.now → KnowsAbove at.line.now at.place (g.takes x v ∷ js) rows.here.now
+    → r ≡ is_some (run at.line.now (g.takes x v ∷ js) at.place)
 
--- r tells whether the items that are written from i on, the first of which was read, match from p up to the next bar
-abbrev pub Tells : List ℕ → ℕ → Item → List ℕ → ℕ → List Bool → List Bool → Bool → Type 0
-Tells e i item l p below here r =
-    (y : g.Item) (js : List g.Item) → WrittenAt e i (y ∷ js) → item ≡ token_of y
-    → Knows l (leading js) below → KnowsAbove l p (leading (y ∷ js)) here → r ≡ is_some (run l (leading (y ∷ js)) p)
+-- r tells whether the item, and any items js behind it, match from there up to the next bar
+abbrev pub Tells : Item → Cursor → Rows → Bool → Type 0
+Tells item at rows r =
+    (y : g.Item) (js : List g.Item) → IsItem item y
+    → Knows at.line.now (leading js) rows.below.now → KnowsAbove at.line.now at.place (leading (y ∷ js)) rows.here.now
+    → r ≡ is_some (run at.line.now (leading (y ∷ js)) at.place)
 
--- a row of the items behind the first that is written at i gives one of them all
-abbrev pub RowOn : List ℕ → ℕ → List ℕ → List Bool → List Bool → Type 0
-RowOn e i l below cells = (y : g.Item) (js : List g.Item) → WrittenAt e i (y ∷ js) → Row l (leading js) below → Row l (leading (y ∷ js)) cells
+-- a row of any items js gives one of the item and them
+abbrev pub RowOn : Item → List ℕ → List Bool → List Bool → Type 0
+RowOn item l below cells = (y : g.Item) (js : List g.Item) → IsItem item y → Row l (leading js) below → Row l (leading (y ∷ js)) cells

@@ -1,39 +1,30 @@
 // One row of a table: whether the items from one on, up to the next bar, match, for each place of the line.
-ghost use Rattle.std.specs.Prelude.{◌≡◌, ◌<◌, length, IfOk};
+ghost use Rattle.std.specs.Prelude.{◌≡◌, length, IfOk};
 ghost use Rattle.table.specs.Cells.{RowOn};
 
-use crate::cell::cell;
-use chars::edges::is_edge;
-use grammar::items::item_at;
+use crate::cell::Rows;
+use grammar::items::Item;
 use std::alloc::{AllocError, Global};
+use ways::cursor::Cursor;
 
-// Sets the cells of the item at `i`, the last place first, from those of the items behind it.
-fn fill_row(expression: &[u8], i: usize, line: &str, below: &[bool], here: &mut [bool])
-    requires within { i < length expression.now }
-    requires alike { length here.old ≡ length below.now }
-    ensures { RowOn expression.now i line.now below.now here.new }
+// Sets the cells of the item, the last place first, from those of the items behind it.
+fn fill_row(item: &Item<'_>, line: &str, below: &[bool], here: &mut [bool])
+    requires { length here.old ≡ length below.now }
+    ensures { RowOn item.now line.now below.now here.new }
 {
-    let (item, _) = item_at(expression, i);
-    for p in (0..here.len()).rev() {
-        if is_edge(line, p) {
-            let set = cell(expression, i, item, line, p, below, here);
-            here[p] = set;
+    for place in (0..here.len()).rev() {
+        if let Some(from) = Cursor::new(line, place) {
+            let set = Rows { here: &*here, below }.cell(item, &from);
+            here[place] = set;
         }
     }
 }
 
-// The row of the item at `i`, from that of the items behind it.
-pub(crate) fn row(
-    heap: Global,
-    expression: &[u8],
-    i: usize,
-    line: &str,
-    below: &[bool],
-) -> Result<Vec<bool>, AllocError>
-    requires { i < length expression.now }
-    ensures { IfOk result (λ v. RowOn expression.now i line.now below.now v.items) }
+// The row of the item, from that of the items behind it.
+pub(crate) fn row(heap: Global, item: &Item<'_>, line: &str, below: &[bool]) -> Result<Vec<bool>, AllocError>
+    ensures { IfOk result (λ v. RowOn item.now line.now below.now v.items) }
 {
     let mut row = vec![in heap; false; below.len()]?;
-    fill_row(expression, i, line, below, &mut row);
+    fill_row(item, line, below, &mut row);
     Ok(row)
 }

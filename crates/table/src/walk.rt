@@ -1,78 +1,62 @@
 // The preferred way through a filled table.
-ghost use Rattle.std.specs.Prelude.{◌≤◌, List, length};
-ghost use Rattle.std.specs.Str.{IsCharBoundary};
-ghost use Rattle.grammar.specs.Grammar as g;
-ghost use Rattle.ways.specs.Match.{run};
-ghost use Rattle.ways.specs.Meaning.{leading};
-ghost use Rattle.ways.specs.Starts.{Begins};
-ghost use Rattle.tries.specs.Tried.{Result as Found};
-ghost use Rattle.tries.specs.declared.run.Limit.TheVariants.{Unlimited};
-ghost use Rattle.table.specs.Tables.{Filled};
-ghost use Rattle.table.specs.Walks.{Ahead};
+ghost use Rattle.table.specs.Tables.{Filled, RowsFrom};
+ghost use Rattle.table.specs.Walks.{Follows};
 
-use crate::cell::is_set;
-use crate::fill::{Table, cells};
-use crate::take::take;
-use grammar::items::{Item, item_at};
-use tries::run::{Outcome, note};
+use crate::cell::{Rows, is_set};
+use crate::fill::Table;
+use arrayvec::ArrayVec;
+use grammar::items::{Item, Items};
+use std::convert::Infallible;
+use ways::cursor::Cursor;
+use ways::find::{FindWay, Matched};
 use ways::start::Start;
 
-impl Table {
-    // The way of the last `row` items, which stand at `at`, from the place up to the next bar, where there is one.
-    fn follow(
-        &self,
-        expression: &[u8],
-        mut at: usize,
-        mut row: usize,
-        line: &str,
-        place: usize,
-        marks: &mut [usize],
-    ) -> Outcome
-        requires within { at ≤ length expression.now }
-        requires edge { IsCharBoundary line.now place }
-        requires filled { Filled expression.now line.now self.now }
-        ensures { (is : List g.Item) → Ahead expression.now line.now at row place is → Found (leading is) place 0 Unlimited marks.old result marks.new (run line.now (leading is) place) }
-    {
-        let mut end = place;
-        let mut m = 0;
-        while at < expression.len() {
-            let (item, next) = item_at(expression, at);
-            match item {
-                Item::Take(piece, times) => {
-                    let here = cells(&self.rows, row);
-                    let below = cells(&self.rows, row.saturating_sub(1));
-                    end = take(expression, at, piece, times, line, end, here, below);
-                }
-                Item::Open | Item::Close => m = note(marks, m, end),
-                // these hold here, since there is a way
-                Item::Start | Item::End | Item::Never => {}
-                Item::Bar => return Outcome::Matched(end),
+// The way of the items from the place up to the next bar, where there is one; the rows are those of the items.
+fn follow(mut rows: &[Vec<bool>], items: &Items<'_>, from: &Cursor<'_>) -> Matched
+    ensures { Follows rows.now items.now.rest.now from.now result }
+{
+    let mut end = *from;
+    let mut brackets = ArrayVec::new();
+    let mut left = *items;
+    while let (Some((item, others)), [here, below, ..]) = (left.split_first(), rows) {
+        match item {
+            Item::Take(piece, times) => {
+                end = Rows { here, below }.take(&piece, times, &end);
             }
-            at = next;
-            row = row.saturating_sub(1);
+            Item::Open | Item::Close => {
+                // an expression has no more brackets than there is room for
+                let _ = brackets.try_push(end.place);
+            }
+            // these hold here, since there is a way
+            Item::Start | Item::End | Item::Never => {}
+            Item::Bar => break,
         }
-        Outcome::Matched(end)
+        left = others;
+        rows = &rows[1..];
     }
+    Matched { end: end.place, brackets }
+}
 
-    // The match of the alternative that begins at `start`, from the place on; `marks` then has the places of its brackets.
-    pub fn walk(
-        &self,
-        expression: &[u8],
-        start: Start,
-        line: &str,
-        place: usize,
-        marks: &mut [usize],
-    ) -> Outcome
-        requires within { start.at ≤ length expression.now }
-        requires edge { IsCharBoundary line.now place }
-        requires filled { Filled expression.now line.now self.now }
-        ensures { (is : List g.Item) → Begins expression.now start is → Found (leading is) place 0 Unlimited marks.old result marks.new (run line.now (leading is) place) }
+impl Table {
+    // The rows of the items of an alternative and of those behind it. The last row is that of no item.
+    fn rows_from(&self, start: &Start<'_>) -> &[Vec<bool>]
+        ensures { RowsFrom self.now start.now result.now }
     {
-        let row = (self.rows.len() - 1).saturating_sub(start.nth);
-        if is_set(cells(&self.rows, row), place) {
-            self.follow(expression, start.at, row, line, place, marks)
-        } else {
-            Outcome::Failed
+        let last = self.rows.len().saturating_sub(1);
+        &self.rows[start.nth.min(last)..]
+    }
+}
+
+impl FindWay for Table {
+    type Stop = Infallible;
+
+    ghost serves = { λ t e l. Filled e l t };
+
+    fn find_way(&mut self, start: &Start<'_>, from: &Cursor<'_>) -> Result<Option<Matched>, Infallible> {
+        let rows = self.rows_from(start);
+        match rows.first() {
+            Some(row) if is_set(row, from.place) => Ok(Some(follow(rows, &start.items, from))),
+            _ => Ok(None),
         }
     }
 }

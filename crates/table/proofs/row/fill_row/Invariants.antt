@@ -1,5 +1,6 @@
+use Rattle.std.proofs.Common.{◌≡◌, length}
 use Rattle.table.proofs.Rows.{Filling}
 use Rattle.table.proofs.row.fill_row.Given as goal
 
-abbrev pub invariant-loop-p : goal.invariant-loop-p
-invariant-loop-p l = Filling l.expression l.i l.line l.below l.here l.p
+abbrev pub invariant-loop-place : goal.invariant-loop-place
+invariant-loop-place l = Filling l.item l.line l.below l.here l.place

@@ -7,4 +7,4 @@ pub returns : goal.returns
 returns c =
     let here = c.fill_row.new.here in
     let long : length here ≡ c.in_ok-row.row.len = omega arith in
-    subst (RowOn c.args.expression.now c.args.i c.args.line.now c.args.below.now) (sym (take_at here _ c.in_ok-row.row.len long)) c.fill_row.ensures
+    subst (RowOn c.args.item.now c.args.line.now c.args.below.now) (sym (take_at here _ c.in_ok-row.row.len long)) c.fill_row.ensures

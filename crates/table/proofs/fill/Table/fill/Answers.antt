@@ -1,55 +1,34 @@
-use Rattle.std.proofs.Common.{◌≡◌, ℕ, ◌-◌, ◌<◌, Bool, List, [], ◌∷◌, ◌++◌, length, drop, vec_items, Vec, sym, ap, ◌∙◌, subst, arith}
+use Rattle.std.proofs.Common.{◌≡◌, ℕ, Bool, Bor, List, [], ◌∷◌, ◌++◌, vec_items, Vec, sym, ap, ◌∙◌, subst}
+use Rattle.std.specs.List.{AllZip}
 use Rattle.std.specs.declared.alloc.Global.{Global}
-use Rattle.std.proofs.lemmas.List.{get_or_read, length-append}
-use Rattle.std.proofs.lemmas.Bool.{lt-ltb}
+use Rattle.std.proofs.lemmas.List.{reverse-reverse, reverse-append}
+use Rattle.std.proofs.lemmas.Iterator.Adapters.{YieldsList-from_rev_slice}
+use Rattle.std.proofs.lemmas.Iterator.Consumers.{YieldsList-end}
+use mathlib.Core.List.{map, reverse}
+use Rattle.grammar.specs.declared.items.Item.{Item}
+use Rattle.grammar.specs.Items.{IsItem, Written}
 use Rattle.grammar.specs.Parse.{items}
-use Rattle.ways.specs.Reading.{WrittenAt}
-use Rattle.table.specs.Tables.{row_at}
-use Rattle.table.proofs.Tables.{Growing, growing_none, growing_more, growing_all}
+use Rattle.table.specs.Cells.{RowOn}
+use Rattle.table.specs.Tables.{RowsOf}
+use Rattle.table.proofs.Tables.{Growing, growing_more, legal_written}
 use Rattle.table.proofs.fill.Table.fill.Goals as goal
 
-pub row-requires : goal.row-requires
-row-requires c =
-    let places = vec_items c.in_ok-places.places in
-    let lt : c.loop-k.k - 1 < length places = omega (arith, c.in_ok-places.places.ok.0) in
-    let read = get_or_read places (c.loop-k.k - 1) c.index.result.now lt c.index.ensures 0 in
-    omega (arith, read, c.in_ok-places.ensures.within (c.loop-k.k - 1) lt)
-
-pub loop-k-init : goal.loop-k-init
-loop-k-init c =
-    let e = c.args.expression.now in
-    let v = c.in_ok-last_row.field-0 in
-    let pushed : v ∷ [] ≡ vec_items c.push.new.self = ap (λ (vs : List (Vec Bool Global)). vs ++ v ∷ []) (sym c.new-rows.ensures.items) ∙ sym c.in_ok-push.ensures.items in (
-      subst (λ (vs : List (Vec Bool Global)). 0 < length vs) pushed (omega arith),
-      λ s.
-          let stand = c.in_ok-places.ensures.stand s in
-          subst (λ (vs : List (Vec Bool Global)). Growing e c.args.line.now vs c.len-k.result) pushed
-          (growing_none e c.args.line.now v c.len-k.result (c.len-k.ensures ∙ c.in_ok-places.places.ok.0 ∙ stand.all) c.in_ok-last_row.ensures),
-    )
-
-pub loop-k-preserved : goal.loop-k-preserved
-loop-k-preserved c =
-    let e = c.args.expression.now in
-    let k = c.loop-k.k in
-    let places = vec_items c.in_ok-places.places in
-    let lt : k - 1 < length places = omega (arith, c.in_ok-places.places.ok.0) in
-    let read = get_or_read places (k - 1) c.index.result.now lt c.index.ensures 0 in
-    let rows = vec_items c.loop-k.rows in
-    let v = c.in_ok-here.here in
-    let pushed : rows ++ v ∷ [] ≡ vec_items c.push-in-loop-k.new.self = sym c.in_ok-push-2.ensures.items in
-    let last : c.len.result - 1 ≡ length rows - 1 = ap (λ (n : ℕ). n - 1) (c.len.ensures ∙ c.loop-k.rows.ok.0) in
-    let below : c.cells-below.result.now ≡ row_at rows (length rows - 1) =
-    c.cells-below.ensures ∙ ap (λ (vs : List (Vec Bool Global)). row_at vs (c.len.result - 1)) c.deref.ensures.value ∙ ap (row_at rows) last in (
-      subst (λ (vs : List (Vec Bool Global)). 0 < length vs) pushed (omega (arith, length-append rows (v ∷ []))),
-      λ s.
-          let stand = c.in_ok-places.ensures.stand s in
-          subst (λ (vs : List (Vec Bool Global)). Growing e c.args.line.now vs (k - 1)) pushed
-          (growing_more e c.args.line.now rows k c.index.result.now c.cells-below.result.now v (omega arith) (omega (arith, stand.all)) below
-          (subst (λ (i : ℕ). WrittenAt e i (drop (k - 1) (items e))) (sym read) (stand.each (k - 1) lt)) c.in_ok-here.ensures (c.loop-k.invariant.1 s)),
-    )
+pub loop-item-preserved : goal.loop-item-preserved
+loop-item-preserved c =
+    rw c.in_ok-push.ensures.items (growing_more c.loop-item.invariant c.in-Some.item c.in_ok-here.here (rw (← c.deref-in-loop-item.ensures.value) c.in_ok-here.ensures))
 
 pub returns : goal.returns
-returns c = record {
-  filled = lt-ltb 0 (length (vec_items c.loop-k.rows)) c.loop-k.invariant.0;
-  rows = λ s. growing_all c.args.expression.now c.args.line.now (record { rows = c.loop-k.rows }) c.loop-k.k c.loop-k-test.false (c.loop-k.invariant.1 s);
-}
+returns c =
+    let l = c.args.line.now in
+    let e = c.args.expression.now.text.now in
+    let list = vec_items c.in_ok-items.items in
+    let below = c.loop-item.below in
+    let rows = vec_items c.loop-item.rows in
+    let written : Written c.items.result.rest.now (items e) = subst (λ (bytes : List ℕ). Written bytes (items e)) (sym c.items.ensures) (legal_written e c.args.expression.now.legal) in
+    let all = YieldsList-end (YieldsList-from_rev_slice list cc) c.loop-item.yielded _ c.loop-item.yielded_by _ _ c.in-None.is c.next.ensures.steps in
+    let listed : reverse (map (λ (y : Bor Item). y.now) c.loop-item.yielded) ≡ list = ap reverse all.0 ∙ reverse-reverse list in
+    let zip : AllZip IsItem list (items e) = c.in_ok-items.ensures (items e) written in
+    let filled : RowsOf l (items e) (below ∷ reverse rows) = c.loop-item.invariant.each (items e) (subst (λ (xs : List Item). AllZip IsItem xs (items e)) (sym listed) zip) in
+    let reversed : below ∷ reverse rows ≡ vec_items c.reverse.new.self =
+    sym (reverse-append rows (below ∷ [])) ∙ ap reverse (sym c.in_ok-push-2.ensures.items) ∙ sym c.reverse.ensures.items in
+    subst (RowsOf l (items e)) reversed filled
