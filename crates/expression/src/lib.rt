@@ -11,8 +11,5 @@
 // the search goes on without, and answers the same.
 #![tactic(auto)]
 
-mod attempts;
+pub mod attempts;
 mod groups;
-pub mod search;
-
-pub use search::ExpressionMatcher;
