@@ -25,8 +25,9 @@ impl Laying {
         ensures region { self.new.region ≡ put_in k begin end self.old.region }
         ensures same { (self.new.opened ≡ self.old.opened) × (self.new.inner ≡ self.old.inner) }
     {
-        if let Some(group) = self.region.groups.get_mut(k) {
-            *group = Some(Span { begin, end });
+        let groups = self.region.groups.as_mut_slice();
+        if k < groups.len() {
+            groups[k] = Some(Span { begin, end });
         }
     }
 

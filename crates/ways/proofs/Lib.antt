@@ -1,1 +1,2 @@
 pub mod Prefers
+pub mod Reading
