@@ -1,7 +1,6 @@
 // The match of an expression at a place: that of its first alternative that matches there.
-ghost use Rattle.std.specs.Prelude.{◌≡◌, ℕ, List, IfOk, None as Neither};
+ghost use Rattle.std.specs.Prelude.{◌≡◌, ℕ, List, IfOk};
 ghost use Rattle.grammar.specs.Parse.{items};
-ghost use Rattle.grammar.specs.Reader.{refusal};
 ghost use Rattle.ways.specs.Meaning.{alternatives as alternatives_of, at as match_at_spec};
 ghost use Rattle.ways.specs.Starts.{Left};
 
@@ -16,11 +15,10 @@ pub(crate) fn match_at<W: FindWay>(
     alternatives: Alternatives<'_>,
     from: &Cursor<'_>,
 ) -> Result<Option<Region>, W::Stop>
-    ensures found { IfOk result (λ r. (e : List ℕ) → refusal e ≡ Neither → W.serves way.old e from.now.line.now → Left e 0 alternatives.entry (alternatives_of (items e)) → r ≡ match_at_spec e from.now.line.now from.now.place) }
+    ensures found { IfOk result (λ r. (e : List ℕ) → W.serves way.old e from.now.line.now → Left e 0 alternatives.entry (alternatives_of (items e)) → r ≡ match_at_spec e from.now.line.now from.now.place) }
     ensures same { (e l : List ℕ) → W.serves way.old e l → W.serves way.new e l }
 {
-    let mut alternatives = alternatives;
-    while let Some(start) = alternatives.advance() {
+    for start in alternatives {
         if let Some(matched) = way.find_way(&start, from)? {
             return Ok(Some(region(&start, from.place, &matched)));
         }

@@ -1,5 +1,5 @@
 -- Where the alternatives of an expression begin. Assumes nothing.
-use Rattle.std.specs.Prelude.{◌≡◌, ℕ, ◌+◌, List, [], ◌∷◌, drop, Some, None, Option}
+use Rattle.std.specs.Prelude.{◌≡◌, ℕ, ◌+◌, List, [], ◌∷◌, length, drop, Some, None, Option}
 use Rattle.grammar.specs.Grammar as g
 use Rattle.grammar.specs.Parse.{items}
 use Rattle.ways.specs.declared.start.Start.{Start}
@@ -31,3 +31,12 @@ Gives e n [] None a = Unit {0}
 Gives e n [] (Some s) a = ⊥
 Gives e n (x ∷ more) None a = ⊥
 Gives e n (x ∷ more) (Some s) a = (is : List g.Item) × Begins e s is × (s.opened ≡ n) × (leading is ≡ x) × Left e (n + pairs x) a more
+
+-- no more alternatives than this are left: each but the first has a bar of its own before it
+abbrev pub count_from : Option Start → Option Start → ℕ
+count_from None after = 0
+count_from (Some s) None = 1
+count_from (Some s) (Some t) = 2 + length t.items.rest.now
+
+abbrev pub count_left : Alternatives → ℕ
+count_left a = count_from a.next a.after

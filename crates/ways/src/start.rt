@@ -69,3 +69,20 @@ impl<'a> Alternatives<'a> {
         unreachable!()
     }
 }
+
+impl<'a> Iterator for Alternatives<'a> {
+    ghost use Rattle.std.specs.Iterator.{at_most};
+    ghost use Rattle.ways.specs.Starts.{Left, Gives, count_left};
+
+    type Item = Start<'a>;
+
+    // Of those that were left, the first is given, and the others are left.
+    ghost next_gives = { λ a r b. (e : List ℕ) (n : ℕ) (alts : List (List g.Item)) → Left e n a alts → Gives e n alts r b };
+
+    ghost remaining = { λ a. at_most (count_left a) };
+
+    fn next(&mut self) -> Option<Start<'a>> {
+        nothing();
+        unreachable!()
+    }
+}
