@@ -1,8 +1,6 @@
 // The match of an expression at a place: that of its first alternative that matches there.
-ghost use Rattle.std.specs.Prelude.{◌≡◌, ℕ, List, IfOk};
-ghost use Rattle.grammar.specs.Parse.{items};
-ghost use Rattle.ways.specs.Meaning.{alternatives as alternatives_of, at as match_at_spec};
-ghost use Rattle.ways.specs.Starts.{Left};
+ghost use Rattle.std.specs.Prelude.{ℕ, List, IfOk};
+ghost use Rattle.expression.specs.Attempts.{IsMatchAt};
 
 use crate::groups::region;
 use matcher::answer::Region;
@@ -15,7 +13,7 @@ pub(crate) fn match_at<W: FindWay>(
     alternatives: Alternatives<'_>,
     from: &Cursor<'_>,
 ) -> Result<Option<Region>, W::Stop>
-    ensures found { IfOk result (λ r. (e : List ℕ) → W.serves way.old e from.now.line.now → Left e 0 alternatives.entry (alternatives_of (items e)) → r ≡ match_at_spec e from.now.line.now from.now.place) }
+    ensures found { IfOk result (IsMatchAt (W.serves way.old) alternatives.entry from.now.line.now from.now.place) }
     ensures same { (e l : List ℕ) → W.serves way.old e l → W.serves way.new e l }
 {
     for start in alternatives {
