@@ -1,5 +1,5 @@
 -- From the match of an alternative to that of an expression. Assumes nothing.
-use Rattle.std.proofs.Common.{◌≡◌, ℕ, suc, ◌+◌, ◌-◌, ◌*◌, ◌<◌, ◌≤◌, List, [], ◌∷◌, length, Some, None, Option, sym, refl, ap, ◌∙◌, subst, arith}
+use Rattle.std.proofs.Common.{◌≡◌, ℕ, suc, ◌+◌, ◌-◌, ◌*◌, ◌≤◌, List, [], ◌∷◌, length, Some, None, Option, sym, refl, ap, ◌∙◌, subst, arith}
 use Rattle.matcher.specs.declared.answer.Region.{Region}
 use Rattle.scan.specs.Earliest.{or_else}
 use Rattle.grammar.specs.Grammar as g
@@ -66,9 +66,9 @@ module _ (e l : List ℕ) (p : ℕ) (n : ℕ) (s : Start) (b : Alternatives) whe
   region_at : (x : List g.Item) (is : List g.Item) → s.opened ≡ n → leading is ≡ x → region_by n x p (run l x p) ≡ region_from l p s is
   region_at x is opened lead i = region_by (sym opened i) (sym lead i) p (run l (sym lead i) p)
 
-  pub found_in : (alts : List (List g.Item)) (r : Region) → Gives e n alts (Some s) b → ((is : List g.Item) → Begins e s is → region_from l p s is ≡ Some r) → first_of l n alts p ≡ Some r
-  found_in [] r h told = absurd h
-  found_in (x ∷ more) r h told = ap (λ o. or_else o (first_of l (n + pairs x) more p)) (region_at x h.0 h.2 h.3 ∙ told h.0 h.1)
+  pub found_in : (alts : List (List g.Item)) (r : Region) → Gives e n alts (Some s) b → ((is : List g.Item) → Begins e s is → region_from l p s is ≡ Some r) → at e l p ≡ first_of l n alts p → Some r ≡ at e l p
+  found_in [] r h told same = absurd h
+  found_in (x ∷ more) r h told same = sym (same ∙ ap (λ o. or_else o (first_of l (n + pairs x) more p)) (region_at x h.0 h.2 h.3 ∙ told h.0 h.1))
 
   pub passed_in : (alts : List (List g.Item)) → Gives e n alts (Some s) b → ((is : List g.Item) → Begins e s is → region_from l p s is ≡ None) → at e l p ≡ first_of l n alts p → From e l p b
   passed_in [] h told same = absurd h

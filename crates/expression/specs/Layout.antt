@@ -5,7 +5,7 @@ use Rattle.grammar.specs.Grammar as g
 use Rattle.ways.specs.declared.start.Start.{Start}
 use Rattle.ways.specs.declared.find.Matched.{Matched}
 use Rattle.ways.specs.Match.{Way}
-use Rattle.ways.specs.Groups.{Laying as Laid, laid}
+use Rattle.ways.specs.Groups.{Laying as Laid}
 use Rattle.ways.specs.Matched.{brackets}
 use Rattle.ways.specs.Meaning.{leading, end_of, region_of}
 use Rattle.ways.specs.Starts.{Begins}

@@ -1,4 +1,4 @@
-use Rattle.std.proofs.Common.{sym, ap, ◌∙◌, subst}
+use Rattle.std.proofs.Common.{ap, subst}
 use Rattle.ways.specs.Match.{run}
 use Rattle.ways.specs.Matched.{Matches}
 use Rattle.ways.specs.Meaning.{leading, region_by}
@@ -9,9 +9,10 @@ pub returns-in-Some-2-clause-found : goal.returns-in-Some-2-clause-found
 returns-in-Some-2-clause-found g c = λ e serves left.
     let l = c.args.from.now.line.now in let p = c.args.from.now.place in let s = c.in-Some.start in
     let h = c.loop-start.invariant.from e serves left in
-    sym (h.same ∙ found_in e l p h.opened s c.next.new.self h.alts c.region.result (c.in-Some.ensures.steps e h.opened h.alts h.left) (λ is b.
+    found_in e l p h.opened s c.next.new.self h.alts c.region.result (c.in-Some.ensures.steps e h.opened h.alts h.left) (λ is b.
     region_of_match e l p s c.in-Some-2.matched c.region.result (c.region.ensures e) is b
-    (subst (Matches (leading is) p (run l (leading is) p)) c.in-Some-2.is (c.in_ok-matched.ensures.found e is (c.loop-start.invariant.serves e l serves) b))))
+    (subst (Matches (leading is) p (run l (leading is) p)) c.in-Some-2.is (c.in_ok-matched.ensures.found e is (c.loop-start.invariant.serves e l serves) b)))
+    h.same
 
 pub loop-start-preserved : goal.loop-start-preserved
 loop-start-preserved g c = record {

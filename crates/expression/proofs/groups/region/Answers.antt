@@ -1,6 +1,5 @@
-use Rattle.std.proofs.Common.{◌≡◌, sym, ap, ◌∙◌, arith}
+use Rattle.std.proofs.Common.{ap, ◌∙◌, arith}
 use Rattle.std.proofs.lemmas.List.{length-reverse}
-use Rattle.std.specs.Iterator.Adapters.{copied_source}
 use Rattle.std.specs.Slice.Iter.{iter_rest}
 use Rattle.ways.specs.Groups.{opening, closing}
 use Rattle.ways.specs.Meaning.{leading}
@@ -48,6 +47,7 @@ pub returns : goal.returns
 returns c = λ e is w b long same ended.
     let h = c.loop-item.invariant.lies e is w b long same in
     let finish = regional c.args.start.now.opened c.args.begin c.args.matched.now.end (leading is) w (laid_by c.loop-item.laying) c.put.new.self.region in
-    elim c.match-split_first.branch [ 
-      in-Some+in-Bar v ↦ finish (at_bar h v.in-Some.item v.in-Some.others v.in-Some.ensures.reads v.in-Bar.is) ended c.put.ensures.region
-    | in_default v ↦ finish (at_end h v.in_default.ensures.reads) ended c.put.ensures.region ]
+    elim c.match-split_first.branch [
+      | in-Some+in-Bar v ↦ finish (at_bar h v.in-Some.item v.in-Some.others v.in-Some.ensures.reads v.in-Bar.is) ended c.put.ensures.region
+      | in_default v ↦ finish (at_end h v.in_default.ensures.reads) ended c.put.ensures.region
+    ]
