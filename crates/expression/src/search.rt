@@ -1,22 +1,25 @@
 // The matcher: its meaning, its laws, and what a search says of the line.
-ghost use Rattle.std.specs.Prelude.{◌≡◌, ◌≤◌, length, None as Neither};
-ghost use Rattle.std.specs.Str.{IsCharBoundary};
-ghost use Rattle.scan.specs.Earliest.{earliest_from};
-ghost use Rattle.grammar.specs.Reader.{refusal as refusal_of};
-ghost use Rattle.ways.specs.Meaning.{at as match_at, meaning};
+ghost use Rattle.std.specs.Prelude.{◌≡◌, IfOk};
+ghost use Rattle.scan.specs.Earliest.{found_from};
+ghost use Rattle.ways.specs.Meaning.{at as match_at_spec, meaning};
 ghost use Rattle.preference.specs.Found.{Told};
-ghost use Rattle.expression.specs.Attempts.{Remembers};
+ghost use Rattle.expression.specs.Attempts.{IsFirstFrom};
 ghost use Rattle.preference.proofs.Placing.{expression_lawful};
 ghost use Rattle.preference.proofs.Telling.{told_meaning};
 
-use crate::attempts::{Verdict, match_from};
-use chars::edges::is_edge;
+use crate::attempts::match_at;
+use grammar::expression::Expression;
 use grammar::legality;
 use matcher::answer::{Answer, Illegal, Region};
 use matcher::search::Matcher;
+use scan::attempt::first_from;
 use std::alloc::Global;
 use table::fill::Table;
-use tries::run::Limit;
+use tries::limit::{Fuel, Unlimited};
+use tries::run::Tries;
+use ways::cursor::Cursor;
+use ways::find::FindWay;
+use ways::start::Alternatives;
 
 // How deep the quick tries may nest.
 const DEPTH: usize = 2048;
@@ -36,74 +39,43 @@ impl ExpressionMatcher {
     }
 }
 
-// How many tries are quick: some for each byte of the line and of the expression.
-fn quick(expression: usize, line: usize) -> usize {
-    line.saturating_add(expression)
-        .saturating_mul(8)
-        .saturating_add(256)
+// Some tries for each byte of the line and of the expression.
+fn quick(expression: &Expression<'_>, line: &str) -> Tries<Fuel> {
+    let bytes = line.len().saturating_add(expression.text.len());
+    let left = bytes.saturating_mul(8).saturating_add(256);
+    Tries::new(Fuel { left }, DEPTH)
 }
 
-// A table of the expression and the line; where there is no memory for it, one that is not filled.
-fn remember(heap: Global, expression: &[u8], line: &str) -> Table
-    requires { refusal_of expression.now ≡ Neither }
-    ensures { Remembers expression.now line.now result }
-{
-    match Table::fill(heap, expression, line) {
-        Ok(table) => table,
-        Err(_) => Table::none(heap),
-    }
-}
-
-// The first match from the place on, by a table or without a limit.
-fn find_surely(
-    heap: Global,
-    expression: &[u8],
+// The first match from the place on, of an expression and a line that the way serves.
+fn find_by<W: FindWay>(
+    way: &mut W,
+    alternatives: Alternatives<'_>,
     line: &str,
     place: usize,
-    marks: &mut [usize],
-) -> Option<Region>
-    requires legal { refusal_of expression.now ≡ Neither }
-    requires edge { IsCharBoundary line.now place }
-    requires room { 30 ≤ length marks.old }
-    ensures { result ≡ earliest_from line.now (match_at expression.now line.now) place }
+) -> Result<Option<Region>, W::Stop>
+    ensures { IfOk result (IsFirstFrom (W.serves way.old) alternatives.entry line.now place) }
 {
-    let table = remember(heap, expression, line);
-    let mut fuel = 0;
-    match match_from(
-        &table,
-        expression,
-        line,
-        place,
-        Limit::Unlimited,
-        &mut fuel,
-        marks,
-    ) {
-        Verdict::Found(region) => Some(region),
-        _ => None,
-    }
+    first_from(line, place, |at| match Cursor::new(line, at) {
+        Some(from) => match_at(way, alternatives, &from),
+        None => Ok(None),
+    })
 }
 
 // The first match from the place on.
-fn find(heap: Global, expression: &[u8], line: &str, place: usize) -> Option<Region>
-    requires legal { refusal_of expression.now ≡ Neither }
-    requires edge { IsCharBoundary line.now place }
-    ensures { result ≡ earliest_from line.now (match_at expression.now line.now) place }
+fn find(heap: Global, expression: &Expression<'_>, line: &str, place: usize) -> Option<Region>
+    ensures { result ≡ found_from line.now (match_at_spec expression.now.text.now line.now) place }
 {
-    let mut marks = [0; 30];
-    let mut fuel = quick(expression.len(), line.len());
-    let none = Table::none(heap);
-    match match_from(
-        &none,
-        expression,
-        line,
-        place,
-        Limit::Deep(DEPTH),
-        &mut fuel,
-        &mut marks,
-    ) {
-        Verdict::Found(region) => Some(region),
-        Verdict::Nothing => None,
-        Verdict::Exhausted => find_surely(heap, expression, line, place, &mut marks),
+    let alternatives = Alternatives::new(expression);
+    if let Ok(found) = find_by(&mut quick(expression, line), alternatives, line, place) {
+        return found;
+    }
+    let found = match Table::fill(heap, expression, line) {
+        Ok(mut table) => find_by(&mut table, alternatives, line, place),
+        Err(_) => find_by(&mut Tries::new(Unlimited, DEPTH), alternatives, line, place),
+    };
+    match found {
+        Ok(found) => found,
+        Err(never) => match never {},
     }
 }
 
@@ -121,10 +93,7 @@ impl Matcher for ExpressionMatcher {
     }
 
     fn search_text(&self, expression: &[u8], line: &str, place: usize) -> Answer {
-        legality::check(expression)?;
-        if !is_edge(line, place) {
-            return Ok(None);
-        }
-        Ok(find(self.heap, expression, line, place))
+        let expression = Expression::new(expression)?;
+        Ok(find(self.heap, &expression, line, place))
     }
 }

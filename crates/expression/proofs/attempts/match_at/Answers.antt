@@ -1,14 +1,27 @@
-use Rattle.std.proofs.Common.{◌≤◌, length, sym, subst, arith}
-use Rattle.ways.specs.declared.start.Start.{Start}
-use Rattle.ways.specs.Starts.{Onward}
-use Rattle.expression.proofs.Matched.{From, begin_from}
+use Rattle.std.proofs.Common.{ap, subst}
+use Rattle.ways.specs.Match.{run}
+use Rattle.ways.specs.Matched.{Matches}
+use Rattle.ways.specs.Meaning.{leading, region_by}
+use Rattle.expression.proofs.Matched.{region_of_match, found_in, passed_in}
 use Rattle.expression.proofs.attempts.match_at.Goals as goal
 
-pub loop-other-init : goal.loop-other-init
-loop-other-init c =
-    let e = c.args.expression.now in
-    let l = c.args.line.now in
-    let p = c.args.place in
-    let o = c.args.second in
-    subst (λ (s : Start). (30 ≤ length c.args.marks.now) × (s.at ≤ length e) × (s.nth ≤ s.at) × (s.opened ≤ s.at) × Onward e s o × From e l p s o)
-    (sym c.first-start.ensures) (c.requires.room, omega arith, omega arith, omega arith, c.requires.follows.0, begin_from e l p o c.requires.legal c.requires.follows)
+pub returns-in-Some-2-clause-found : goal.returns-in-Some-2-clause-found
+returns-in-Some-2-clause-found g c = λ e serves left.
+    let l = c.args.from.now.line.now in let p = c.args.from.now.place in let s = c.in-Some.start in
+    let h = c.loop-start.invariant.from e serves left in
+    found_in e l p h.opened s c.next.new.self h.alts c.region.result (c.in-Some.ensures.steps e h.opened h.alts h.left) (λ is b.
+    region_of_match e l p s c.in-Some-2.matched c.region.result (c.region.ensures e) is b
+    (subst (Matches (leading is) p (run l (leading is) p)) c.in-Some-2.is (c.in_ok-matched.ensures.found e is (c.loop-start.invariant.serves e l serves) b)))
+    h.same
+
+pub loop-start-preserved : goal.loop-start-preserved
+loop-start-preserved g c = record {
+  serves = λ e s h. c.in_ok-matched.ensures.same e s (c.loop-start.invariant.serves e s h);
+  from = λ e serves left.
+      let l = c.args.from.now.line.now in let p = c.args.from.now.place in let s = c.in-Some.start in
+      let h = c.loop-start.invariant.from e serves left in
+      passed_in e l p h.opened s c.next.new.self h.alts (c.in-Some.ensures.steps e h.opened h.alts h.left) (λ is b.
+      ap (region_by s.opened (leading is) p)
+      (subst (Matches (leading is) p (run l (leading is) p)) c.in_default.is (c.in_ok-matched.ensures.found e is (c.loop-start.invariant.serves e l serves) b)))
+      h.same;
+}

@@ -1,12 +1,12 @@
-use Rattle.std.proofs.Common.{◌-◌, ◌≤◌, length}
-use Rattle.ways.specs.Starts.{Onward}
+use Rattle.std.proofs.Common.{ℕ, List}
+use Rattle.grammar.specs.Parse.{items}
+use Rattle.ways.specs.Meaning.{alternatives}
+use Rattle.ways.specs.Starts.{Left}
 use Rattle.expression.proofs.Matched.{From}
 use Rattle.expression.proofs.attempts.match_at.Given as goal
 
-abbrev pub invariant-loop-other : goal.invariant-loop-other
-invariant-loop-other l =
-    (30 ≤ length l.marks) × (l.start.at ≤ length l.expression) × (l.start.nth ≤ l.start.at) × (l.start.opened ≤ l.start.at)
-    × Onward l.expression l.start l.next × From l.expression l.line l.place l.start l.next
-
-abbrev pub decreases-loop-other : goal.decreases-loop-other
-decreases-loop-other l = length l.expression - l.start.at
+abbrev pub invariant-loop-start : goal.invariant-loop-start
+invariant-loop-start g l = record {
+  serves : (e s : List ℕ) → g.W.FindWay.serves l.fn.way e s → g.W.FindWay.serves l.way e s;
+  from : (e : List ℕ) → g.W.FindWay.serves l.fn.way e l.from.line.now → Left e 0 l.fn.alternatives (alternatives (items e)) → From e l.from.line.now l.from.place l.start-iterator;
+}
