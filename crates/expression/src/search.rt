@@ -1,11 +1,11 @@
 // The matcher: its meaning, its laws, and what a search says of the line.
-ghost use Rattle.std.specs.Prelude.{◌≡◌, IfOk};
+ghost use Rattle.std.specs.Prelude.{◌≡◌, ℕ, ◌+◌, List, length, Ok as Fine, IfOk, IsOkAnd};
 ghost use Rattle.scan.specs.Earliest.{found_from};
 ghost use Rattle.ways.specs.Meaning.{at as match_at_spec, meaning};
 ghost use Rattle.preference.specs.Found.{Told};
-ghost use Rattle.expression.specs.Attempts.{IsFirstFrom};
+ghost use Rattle.expression.specs.Attempts.{IsTriedAt, IsFoundFrom};
 ghost use Rattle.preference.proofs.Placing.{expression_lawful};
-ghost use Rattle.preference.proofs.Telling.{told_meaning};
+ghost use Rattle.preference.proofs.Telling;
 
 use crate::attempts::match_at;
 use grammar::expression::Expression;
@@ -24,7 +24,7 @@ use ways::start::Alternatives;
 // How deep the quick tries may nest.
 const DEPTH: usize = 2048;
 
-// It remembers failures in memory of the heap, where the quick tries do not suffice.
+// It remembers what matches where in memory of the heap, where the quick tries do not suffice.
 #[derive(Clone, Copy)]
 pub struct ExpressionMatcher {
     heap: Global,
@@ -39,25 +39,34 @@ impl ExpressionMatcher {
     }
 }
 
-// Some tries for each byte of the line and of the expression.
-fn quick(expression: &Expression<'_>, line: &str) -> Tries<Fuel> {
-    let bytes = line.len().saturating_add(expression.text.len());
-    let left = bytes.saturating_mul(8).saturating_add(256);
-    Tries::new(Fuel { left }, DEPTH)
+// How many tries are quick: some for each byte of the line and of the expression.
+fn quick(expression: &Expression<'_>, line: &str) -> Fuel {
+    Fuel {
+        left: line
+            .len()
+            .saturating_add(expression.text.len())
+            .saturating_mul(8)
+            .saturating_add(256),
+    }
 }
 
-// The first match from the place on, of an expression and a line that the way serves.
+// The first match from the place on, by this way of finding that of an alternative.
 fn find_by<W: FindWay>(
     way: &mut W,
     alternatives: Alternatives<'_>,
     line: &str,
     place: usize,
 ) -> Result<Option<Region>, W::Stop>
-    ensures { IfOk result (IsFirstFrom (W.serves way.old) alternatives.entry line.now place) }
+    ensures { IfOk result (IsFoundFrom (W.serves way.old) alternatives.entry line.now place) }
 {
-    first_from(line, place, |at| match Cursor::new(line, at) {
-        Some(from) => match_at(way, alternatives, &from),
-        None => Ok(None),
+    first_from(line, place, |at|
+        ensures found { IfOk result (IsTriedAt (W.serves way.entry.now) alternatives.entry line.entry.now at) }
+        ensures same { (e l : List ℕ) → W.serves way.entry.now e l → W.serves way.exit.now e l }
+    {
+        match Cursor::new(line, at) {
+            Some(from) => match_at(way, alternatives, &from),
+            None => Ok(None),
+        }
     })
 }
 
@@ -66,14 +75,15 @@ fn find(heap: Global, expression: &Expression<'_>, line: &str, place: usize) -> 
     ensures { result ≡ found_from line.now (match_at_spec expression.now.text.now line.now) place }
 {
     let alternatives = Alternatives::new(expression);
-    if let Ok(found) = find_by(&mut quick(expression, line), alternatives, line, place) {
+    let mut quick_tries = Tries::new(quick(expression, line), DEPTH);
+    if let Ok(found) = find_by(&mut quick_tries, alternatives, line, place) {
         return found;
     }
-    let found = match Table::fill(heap, expression, line) {
+    let surely = match Table::fill(heap, expression, line) {
         Ok(mut table) => find_by(&mut table, alternatives, line, place),
         Err(_) => find_by(&mut Tries::new(Unlimited, DEPTH), alternatives, line, place),
     };
-    match found {
+    match surely {
         Ok(found) => found,
         Err(never) => match never {},
     }
@@ -86,7 +96,7 @@ impl Matcher for ExpressionMatcher {
 
     ghost lawful = { λ m. expression_lawful };
 
-    ghost told = { λ m e l p. told_meaning e l p };
+    ghost told = { λ m e l p. Telling.told_meaning e l p };
 
     fn check(&self, expression: &[u8]) -> Result<(), Illegal> {
         legality::check(expression)
