@@ -6,7 +6,7 @@
 #[cfg(test)]
 mod tests {
     use expression::ExpressionMatcher;
-    use matcher::answer::{Answer, Span};
+    use matcher::answer::{Answer, Illegal, Span};
     use matcher::search::Matcher;
     use std::alloc::Global;
 
@@ -184,24 +184,9 @@ mod tests {
         ExpressionMatcher::new(heap).search(expression, line, place)
     }
 
-    fn is_span(group: Option<Span>, expected: Option<(usize, usize)>) -> bool {
-        match (group, expected) {
-            (Some(span), Some((begin, end))) => span == Span { begin, end },
-            (None, None) => true,
-            _ => false,
-        }
-    }
-
     fn is_group(answer: &Answer, k: usize, expected: Option<(usize, usize)>) -> bool {
         match answer {
-            Answer::Found(region) => is_span(region.group(k), expected),
-            _ => false,
-        }
-    }
-
-    fn is_refused(answer: &Answer, place: usize) -> bool {
-        match answer {
-            Answer::Refused(at) => *at == place,
+            Ok(Some(region)) => region.group(k) == expected.map(|(begin, end)| Span { begin, end }),
             _ => false,
         }
     }
@@ -233,17 +218,23 @@ mod tests {
     #[test]
     fn nothing_where_there_is_no_way(rt: HostRuntime) {
         for (expression, line, place) in NOTHING {
-            assert!(rt; matches!(answer(rt.alloc(), expression, line, place), Answer::Nothing));
+            assert_eq!(rt; answer(rt.alloc(), expression, line, place), Ok(None));
         }
     }
 
     // On an empty line, within one that is not UTF-8, and past a line's end.
     #[test]
     fn refused_where_no_legal_expression_goes_on(rt: HostRuntime) {
-        for (expression, place) in REFUSED {
-            assert!(rt; is_refused(&answer(rt.alloc(), expression, b"", 0), place));
-            assert!(rt; is_refused(&answer(rt.alloc(), expression, b"\xff\xff", 1), place));
-            assert!(rt; is_refused(&answer(rt.alloc(), expression, b"a", 9), place));
+        for (expression, at) in REFUSED {
+            assert_eq!(rt; answer(rt.alloc(), expression, b"", 0), Err(Illegal { at }));
+            assert_eq!(rt;
+                answer(rt.alloc(), expression, b"\xff\xff", 1),
+                Err(Illegal { at })
+            );
+            assert_eq!(rt;
+                answer(rt.alloc(), expression, b"a", 9),
+                Err(Illegal { at })
+            );
         }
     }
 
@@ -251,11 +242,9 @@ mod tests {
     #[test]
     fn many_repeats_are_no_trouble(rt: HostRuntime) {
         let line = [b'a'; 200];
-        assert!(rt;
-            matches!(
-                answer(rt.alloc(), b"a*a*a*a*a*a*a*a*a*a*a*a*b", &line, 0),
-                Answer::Nothing
-            )
+        assert_eq!(rt;
+            answer(rt.alloc(), b"a*a*a*a*a*a*a*a*a*a*a*a*b", &line, 0),
+            Ok(None)
         );
         assert!(rt;
             is_group(

@@ -5,7 +5,7 @@ ghost use Rattle.matcher.specs.Regions.{group};
 use crate::mistake::Mistake;
 use crate::records::{Named, Record, read_record};
 use chars::lines::next_line;
-use matcher::answer::{Answer, Region};
+use matcher::answer::{Answer, Illegal, Region, Span};
 use matcher::search::Matcher;
 use std::alloc::Global;
 use std::io;
@@ -17,24 +17,15 @@ fn groups_present(region: &Region) -> usize
     ensures rest { (k : ℕ) → result ≤ k → k < 16 → group region.now k ≡ Absent }
     ensures last { (k : ℕ) → suc k ≡ result → group region.now k ≢ Absent }
 {
-    let mut count = 0;
-    for k in 0..16 {
-        if region.group(k).is_some() {
-            count = k + 1;
-        }
-    }
-    count
+    let last = region.groups.iter().rposition(|group| group.is_some());
+    last.map_or(0, |k| k + 1)
 }
 
 fn print_region<W: Write>(out: &mut W, region: &Region) -> io::Result<()> {
     out.write_all(b"= found")?;
-    for k in 0..groups_present(region) {
-        match region.group(k) {
-            Some(span) => {
-                let begin = span.begin;
-                let end = span.end;
-                write!(out, " {begin} {end}")?;
-            }
+    for group in region.groups.iter().take(groups_present(region)) {
+        match group {
+            Some(Span { begin, end }) => write!(out, " {begin} {end}")?,
             None => out.write_all(b" - -")?,
         }
     }
@@ -43,9 +34,9 @@ fn print_region<W: Write>(out: &mut W, region: &Region) -> io::Result<()> {
 
 fn print_answer<W: Write>(out: &mut W, answer: &Answer) -> io::Result<()> {
     match answer {
-        Answer::Nothing => out.write_all(b"= nothing\n"),
-        Answer::Found(region) => print_region(out, region),
-        Answer::Refused(place) => writeln!(out, "= refused {place}"),
+        Ok(Some(region)) => print_region(out, region),
+        Ok(None) => out.write_all(b"= nothing\n"),
+        Err(Illegal { at }) => writeln!(out, "= refused {at}"),
     }
 }
 
@@ -152,13 +143,9 @@ fn answer_line<W: Write>(
 // Answers all records, line by line.
 pub(crate) fn answer_all<W: Write>(out: &mut W, heap: Global, cases: &[u8]) -> io::Result<()> {
     let mut matcher = None;
-    let mut number: u64 = 0;
-    let mut rest = cases;
-    while let Some((line, behind)) = next_line(rest) {
-        number = number.saturating_add(1);
+    for (number, line) in (1u64..).zip(cases.split_inclusive(|b| *b == b'\n')) {
         let record = line.strip_suffix(b"\n").unwrap_or(line);
         answer_line(out, heap, number, &mut matcher, record)?;
-        rest = behind;
     }
     Ok(())
 }

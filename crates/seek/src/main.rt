@@ -15,35 +15,31 @@ mod lines;
 mod trouble;
 
 use crate::caret::print_refusal;
-use crate::lines::seek_lines;
+use crate::lines::Quest;
 use crate::trouble::Trouble;
 use expression::ExpressionMatcher;
 use matcher::Matcher;
-use matches::step::{Step, next_match};
 use std::env;
 use std::io::{BufWriter, Read, Write};
 use std::process::ExitCode;
 use word::WordMatcher;
 
-const USAGE: &str = "usage: seek word|expression EXPRESSION < SHEET\n";
-
-// The matches in standard input, unless the matcher refuses the expression. A refusal does not depend on the line.
+// The matches in standard input, unless the matcher refuses the expression.
 fn seek<M: Matcher>(rt: &HostRuntime, matcher: &M, expression: &str) -> Result<(), Trouble> {
     let mut out = BufWriter::new(rt.alloc(), rt.stdout())?;
-    if let Step::Refused(place) = next_match(matcher, expression.as_bytes(), "", 0) {
-        print_refusal(&mut out, rt.alloc(), expression, place)?;
+    if let Err(illegal) = matcher.check(expression.as_bytes()) {
+        print_refusal(&mut out, rt.alloc(), expression, illegal)?;
         out.flush()?;
         return Err(Trouble::Refused);
     }
     let mut sheet = Vec::new(rt.alloc());
     rt.stdin().read_to_end(&mut sheet)?;
-    let tally = seek_lines(
-        &mut out,
-        rt.alloc(),
+    let quest = Quest {
+        heap: rt.alloc(),
         matcher,
-        expression.as_bytes(),
-        sheet.as_slice(),
-    )?;
+        expression: expression.as_bytes(),
+    };
+    let tally = quest.seek_lines(&mut out, sheet.as_slice())?;
     writeln!(out, "{tally}")?;
     out.flush()?;
     Ok(())
@@ -70,11 +66,8 @@ fn main(rt: HostRuntime) -> ExitCode {
     match run(&rt) {
         Ok(()) => return ExitCode::SUCCESS,
         Err(Trouble::Refused) => {}
-        Err(Trouble::Usage) => {
-            let _ = eprint!(rt; "{USAGE}");
-        }
-        Err(Trouble::Io(error)) => {
-            let _ = eprintln!(rt; "seek: {error}");
+        Err(trouble) => {
+            let _ = eprintln!(rt; "{trouble}");
         }
     }
     ExitCode::FAILURE

@@ -1,24 +1,31 @@
 // Why the program ends with status 1.
+use matches::all::Failure;
 use std::alloc::AllocError;
 use std::io;
+use thiserror::Error;
 
-#[derive(Drop)]
+#[derive(Debug, Drop, Error)]
 pub enum Trouble {
-    // wrong arguments
+    #[error("usage: seek word|expression EXPRESSION < SHEET")]
     Usage,
-    // the expression is refused, as has been printed
+    // as has been shown with a caret
+    #[error("the expression is refused")]
     Refused,
-    Io(io::Error),
-}
-
-impl From<io::Error> for Trouble {
-    fn from(error: io::Error) -> Trouble {
-        Trouble::Io(error)
-    }
+    #[error("seek: {0}")]
+    Io(#[from] io::Error),
 }
 
 impl From<AllocError> for Trouble {
     fn from(error: AllocError) -> Trouble {
         Trouble::Io(error.into())
+    }
+}
+
+impl From<Failure> for Trouble {
+    fn from(failure: Failure) -> Trouble {
+        match failure {
+            Failure::Illegal(_) => Trouble::Refused,
+            Failure::Memory => AllocError.into(),
+        }
     }
 }

@@ -1,6 +1,6 @@
 -- Worked examples of the definitions. Assumes nothing.
-use Rattle.std.specs.Prelude.{◌≡◌, [], ◌∷◌, Some, None, codes}
-use Rattle.matcher.specs.declared.answer.Answer.TheVariants.{Nothing, Found, Refused}
+use Rattle.std.specs.Prelude.{◌≡◌, [], ◌∷◌, Some, None, Ok, Err, codes}
+use Rattle.matcher.specs.Answers.{illegal}
 use Rattle.matcher.specs.Regions.{spanning}
 use Rattle.word.specs.Reader.{refusal}
 use Rattle.word.specs.Meaning.{meaning}
@@ -25,9 +25,9 @@ Places =
 -- what searches answer
 abbrev pub Answers : Type 0
 Answers =
-    (meaning (codes "salt") (codes "g SaLt") 0 ≡ Found (spanning 2 6))
-    × (meaning (codes "salt") (codes "salted") 0 ≡ Nothing)
-    × (meaning (codes "rye|rye-bun") (codes "rye-bun") 0 ≡ Found (spanning 0 3))
-    × (meaning (codes "a\\1|b") (codes "a1 b") 0 ≡ Found (spanning 3 4))
-    × (meaning (195 ∷ 182 ∷ 108 ∷ []) (32 ∷ 195 ∷ 182 ∷ 76 ∷ []) 0 ≡ Found (spanning 1 4))
-    × (meaning (codes "a.") (97 ∷ 255 ∷ []) 5 ≡ Refused 1)
+    (meaning (codes "salt") (codes "g SaLt") 0 ≡ Ok (Some (spanning 2 6)))
+    × (meaning (codes "salt") (codes "salted") 0 ≡ Ok None)
+    × (meaning (codes "rye|rye-bun") (codes "rye-bun") 0 ≡ Ok (Some (spanning 0 3)))
+    × (meaning (codes "a\\1|b") (codes "a1 b") 0 ≡ Ok (Some (spanning 3 4)))
+    × (meaning (195 ∷ 182 ∷ 108 ∷ []) (32 ∷ 195 ∷ 182 ∷ 76 ∷ []) 0 ≡ Ok (Some (spanning 1 4)))
+    × (meaning (codes "a.") (97 ∷ 255 ∷ []) 5 ≡ Err (illegal 1))

@@ -17,7 +17,7 @@ fn worked_examples_stand() -> bool
 
 #[cfg(test)]
 mod tests {
-    use matcher::answer::{Answer, Span};
+    use matcher::answer::{Answer, Illegal, Region};
     use matcher::search::Matcher;
     use word::WordMatcher;
 
@@ -98,46 +98,29 @@ mod tests {
         WordMatcher.search(expression, line, place)
     }
 
-    // Group 0 alone is present.
-    fn spans(answer: &Answer, span: Span) -> bool {
-        let Answer::Found(region) = answer else {
-            return false;
-        };
-        let mut alone = true;
-        for k in 1..17 {
-            alone = alone && region.group(k).is_none();
-        }
-        alone && region.group(0) == Some(span)
-    }
-
-    fn is_refused(answer: &Answer, place: usize) -> bool {
-        match answer {
-            Answer::Refused(at) => *at == place,
-            _ => false,
-        }
-    }
-
     #[test]
     fn found_where_a_word_counts(rt: HostRuntime) {
         for (expression, line, place, begin, end) in FOUND {
-            assert!(rt; spans(&answer(expression, line, place), Span { begin, end }));
+            // group 0 alone is present
+            let region = Region::spanning(begin, end);
+            assert_eq!(rt; answer(expression, line, place), Ok(Some(region)));
         }
     }
 
     #[test]
     fn nothing_where_none_counts(rt: HostRuntime) {
         for (expression, line, place) in NOTHING {
-            assert!(rt; matches!(answer(expression, line, place), Answer::Nothing));
+            assert_eq!(rt; answer(expression, line, place), Ok(None));
         }
     }
 
     // On an empty line, within one that is not UTF-8, and past a line's end.
     #[test]
     fn refused_where_no_legal_expression_goes_on(rt: HostRuntime) {
-        for (expression, place) in REFUSED {
-            assert!(rt; is_refused(&answer(expression, b"", 0), place));
-            assert!(rt; is_refused(&answer(expression, b"\xff\xff", 1), place));
-            assert!(rt; is_refused(&answer(expression, b"a", 9), place));
+        for (expression, at) in REFUSED {
+            assert_eq!(rt; answer(expression, b"", 0), Err(Illegal { at }));
+            assert_eq!(rt; answer(expression, b"\xff\xff", 1), Err(Illegal { at }));
+            assert_eq!(rt; answer(expression, b"a", 9), Err(Illegal { at }));
         }
     }
 }
