@@ -4,7 +4,7 @@ ghost use Rattle.matcher.specs.Regions.{group};
 
 use crate::mistake::Mistake;
 use crate::records::{Named, Record, read_record};
-use chars::lines::next_line;
+use chars::lines::{lines, next_line};
 use matcher::answer::{Answer, Illegal, Region, Span};
 use matcher::search::Matcher;
 use std::alloc::Global;
@@ -40,112 +40,93 @@ fn print_answer<W: Write>(out: &mut W, answer: &Answer) -> io::Result<()> {
     }
 }
 
-fn print_mistake<W: Write>(out: &mut W, number: u64, mistake: Mistake) -> io::Result<()> {
-    writeln!(out, "? line {number}: {mistake}")
+// What goes from record to record: where the answers are printed, the number of the line, and the matcher that was named last.
+#[derive(Drop)]
+pub(crate) struct Replay<'w, W> {
+    pub out: &'w mut W,
+    pub heap: Global,
+    pub number: u64,
+    pub matcher: Option<Named>,
 }
 
-fn print_unanswered<W: Write>(out: &mut W, number: u64, kind: &str, name: &[u8]) -> io::Result<()> {
-    write!(out, "? line {number}: not answered: {kind}")?;
-    out.write_all(name)?;
-    out.write_all(b"\n")
-}
-
-fn answer_search<W: Write>(
-    out: &mut W,
-    number: u64,
-    matcher: Option<Named>,
-    expression: &[u8],
-    line: &[u8],
-    place: u32,
-) -> io::Result<()> {
-    match matcher {
-        Some(Named::Word) => print_answer(
-            out,
-            &WordMatcher.search(expression, line, place as usize),
-        ),
-        Some(Named::Expression) => print_unanswered(
-            out,
-            number,
-            "search",
-            b" with the matcher expression",
-        ),
-        None => print_mistake(out, number, Mistake::NoMatcher),
+impl<W: Write> Replay<'_, W> {
+    fn print_mistake(&mut self, mistake: Mistake) -> io::Result<()> {
+        let number = self.number;
+        writeln!(self.out, "? line {number}: {mistake}")
     }
-}
 
-fn answer_next_line<W: Write>(out: &mut W, number: u64, from: u32, bytes: &[u8]) -> io::Result<()> {
-    let begin = from as usize;
-    if bytes.len() < begin {
-        return print_mistake(out, number, Mistake::Past);
+    fn print_unanswered(&mut self, kind: &str, name: &[u8]) -> io::Result<()> {
+        let number = self.number;
+        write!(self.out, "? line {number}: not answered: {kind}")?;
+        self.out.write_all(name)?;
+        self.out.write_all(b"\n")
     }
-    match next_line(bytes.split_at(begin).1) {
-        Some((_, behind)) => {
-            let end = bytes.len() - behind.len();
-            writeln!(out, "= line {begin} {end}")
+
+    fn answer_search(&mut self, expression: &[u8], line: &[u8], place: u32) -> io::Result<()> {
+        match self.matcher {
+            Some(Named::Word) => print_answer(
+                self.out,
+                &WordMatcher.search(expression, line, place as usize),
+            ),
+            Some(Named::Expression) => self.print_unanswered(
+                "search",
+                b" with the matcher expression",
+            ),
+            None => self.print_mistake(Mistake::NoMatcher),
         }
-        None => out.write_all(b"= none\n"),
     }
-}
 
-// Prints what a record answers; a record that names a matcher changes the one for what follows.
-fn answer<W: Write>(
-    out: &mut W,
-    number: u64,
-    matcher: &mut Option<Named>,
-    record: &Record<'_>,
-) -> io::Result<()> {
-    match record {
-        Record::Case(case) => writeln!(out, "case {case}"),
-        Record::End => Ok(()),
-        Record::Matcher(name) => {
-            *matcher = Some(*name);
-            Ok(())
+    fn answer_next_line(&mut self, from: u32, bytes: &[u8]) -> io::Result<()> {
+        let begin = from as usize;
+        if bytes.len() < begin {
+            return self.print_mistake(Mistake::Past);
         }
-        Record::Search {
-            expression,
-            line,
-            place,
-        } => answer_search(
-            out,
-            number,
-            *matcher,
-            expression.as_slice(),
-            line.as_slice(),
-            *place,
-        ),
-        Record::NextLine { from, bytes } => answer_next_line(out, number, *from, bytes.as_slice()),
-        Record::Set(name) => print_unanswered(out, number, "", name),
-        Record::Call(name) => print_unanswered(out, number, "call ", name),
+        match next_line(&bytes[begin..]) {
+            Some((_, behind)) => {
+                let end = bytes.len() - behind.len();
+                writeln!(self.out, "= line {begin} {end}")
+            }
+            None => self.out.write_all(b"= none\n"),
+        }
     }
-}
 
-// Whether the line holds no record to answer.
-fn is_passed_over(line: &[u8]) -> bool {
-    matches!(line, [] | [b'#', ..] | [b'=', b' ', ..])
-}
+    // Prints what a record answers; a record that names a matcher changes the one for what follows.
+    fn answer(&mut self, record: &Record<'_>) -> io::Result<()> {
+        match record {
+            Record::Case(case) => writeln!(self.out, "case {case}"),
+            Record::End => Ok(()),
+            Record::Matcher(name) => {
+                self.matcher = Some(*name);
+                Ok(())
+            }
+            Record::Search {
+                expression,
+                line,
+                place,
+            } => self.answer_search(expression.as_slice(), line.as_slice(), *place),
+            Record::NextLine { from, bytes } => self.answer_next_line(*from, bytes.as_slice()),
+            Record::Set(name) => self.print_unanswered("", name),
+            Record::Call(name) => self.print_unanswered("call ", name),
+        }
+    }
 
-fn answer_line<W: Write>(
-    out: &mut W,
-    heap: Global,
-    number: u64,
-    matcher: &mut Option<Named>,
-    line: &[u8],
-) -> io::Result<()> {
-    if is_passed_over(line) {
-        return Ok(());
+    // A line that is empty or begins with `#` or with `= ` holds no record to answer.
+    fn answer_line(&mut self, line: &[u8]) -> io::Result<()> {
+        if matches!(line, [] | [b'#', ..] | [b'=', b' ', ..]) {
+            return Ok(());
+        }
+        match read_record(self.heap, line) {
+            Ok(record) => self.answer(&record),
+            Err(mistake) => self.print_mistake(mistake),
+        }
     }
-    match read_record(heap, line) {
-        Ok(record) => answer(out, number, matcher, &record),
-        Err(mistake) => print_mistake(out, number, mistake),
-    }
-}
 
-// Answers all records, line by line.
-pub(crate) fn answer_all<W: Write>(out: &mut W, heap: Global, cases: &[u8]) -> io::Result<()> {
-    let mut matcher = None;
-    for (number, line) in (1u64..).zip(cases.split_inclusive(|b| *b == b'\n')) {
-        let record = line.strip_suffix(b"\n").unwrap_or(line);
-        answer_line(out, heap, number, &mut matcher, record)?;
+    // Answers all records, line by line.
+    pub(crate) fn answer_all(&mut self, cases: &[u8]) -> io::Result<()> {
+        for (number, line) in (1u64..).zip(lines(cases)) {
+            self.number = number;
+            self.answer_line(line.strip_suffix(b"\n").unwrap_or(line))?;
+        }
+        Ok(())
     }
-    Ok(())
 }

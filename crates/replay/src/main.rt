@@ -12,7 +12,7 @@ mod answers;
 mod mistake;
 mod records;
 
-use crate::answers::answer_all;
+use crate::answers::Replay;
 use std::io;
 use std::io::{BufWriter, Read, Write};
 use std::process::ExitCode;
@@ -21,7 +21,13 @@ fn run(rt: &HostRuntime) -> io::Result<()> {
     let mut cases = Vec::new(rt.alloc());
     rt.stdin().read_to_end(&mut cases)?;
     let mut out = BufWriter::new(rt.alloc(), rt.stdout())?;
-    answer_all(&mut out, rt.alloc(), cases.as_slice())?;
+    let mut replay = Replay {
+        out: &mut out,
+        heap: rt.alloc(),
+        number: 0,
+        matcher: None,
+    };
+    replay.answer_all(cases.as_slice())?;
     out.flush()
 }
 

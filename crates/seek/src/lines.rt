@@ -1,5 +1,6 @@
 // The lines of a sheet, and the matches of each.
 use crate::trouble::Trouble;
+use chars::lines::lines;
 use matcher::Matcher;
 use matcher::answer::{Region, Span};
 use matches::all::all_matches;
@@ -88,7 +89,7 @@ impl<M: Matcher> Quest<'_, M> {
             lines: 0,
             matches: 0,
         };
-        for (number, line) in (1u64..).zip(sheet.split_inclusive(|b| *b == b'\n')) {
+        for (number, line) in (1u64..).zip(lines(sheet)) {
             tally.lines = number;
             // the line break is no part of the line
             let content = line.strip_suffix(b"\n").unwrap_or(line);

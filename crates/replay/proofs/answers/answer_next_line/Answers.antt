@@ -1,9 +1,0 @@
-use Rattle.std.proofs.Common.{length, ap, arith, length-append}
-use Rattle.replay.proofs.answers.answer_next_line.Goals as goal
-
--- what is behind a line is no longer than what the line was cut from
-pub overflow_sub-end : goal.overflow_sub-end
-overflow_sub-end g c =
-    let first = c.in-Some.ensures.0 in
-    let cut = c.split_at.ensures.back_len in
-    omega (arith, simp length-append at (ap length first.joins))
