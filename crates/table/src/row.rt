@@ -14,14 +14,23 @@ fn fill_row(item: &Item<'_>, line: &str, below: &[bool], here: &mut [bool])
 {
     for place in (0..here.len()).rev() {
         if let Some(from) = Cursor::new(line, place) {
-            let set = Rows { here: &*here, below }.cell(item, &from);
+            let set = Rows {
+                here: &*here,
+                below,
+            }
+            .cell(item, &from);
             here[place] = set;
         }
     }
 }
 
 // The row of the item, from that of the items behind it.
-pub(crate) fn row(heap: Global, item: &Item<'_>, line: &str, below: &[bool]) -> Result<Vec<bool>, AllocError>
+pub(crate) fn row(
+    heap: Global,
+    item: &Item<'_>,
+    line: &str,
+    below: &[bool],
+) -> Result<Vec<bool>, AllocError>
     ensures { IfOk result (λ v. RowOn item.now line.now below.now v.items) }
 {
     let mut row = vec![in heap; false; below.len()]?;

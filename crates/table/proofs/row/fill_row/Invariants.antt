@@ -1,4 +1,3 @@
-use Rattle.std.proofs.Common.{◌≡◌, length}
 use Rattle.table.proofs.Rows.{Filling}
 use Rattle.table.proofs.row.fill_row.Given as goal
 
