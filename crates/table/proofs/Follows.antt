@@ -1,5 +1,5 @@
 -- The walk through a table: what was passed, and the way of what is left. Assumes nothing.
-use Rattle.std.proofs.Common.{◌≡◌, ℕ, zero, suc, ◌+◌, ◌-◌, ◌<◌, ◌≤◌, Bool, true, false, cond, eqb, List, [], ◌∷◌, ◌++◌, length, get_or, drop, is_some, Some, None, vec_items, Vec, Option, sym, refl, ap, ◌∙◌, subst, append_assoc, arith}
+use Rattle.std.proofs.Common.{◌≡◌, ℕ, ◌<◌, ◌≤◌, Bool, true, false, cond, eqb, List, [], ◌∷◌, ◌++◌, length, get_or, drop, is_some, Some, None, vec_items, Vec, Option, sym, refl, ap, ◌∙◌, subst, append_assoc, arith}
 use Rattle.std.specs.Prelude.{Result, Ok, Err, IsOk, OnOk}
 use Rattle.std.proofs.lemmas.List.{append-nil, length-append}
 use Rattle.grammar.specs.declared.items.Piece.{Piece}
@@ -17,7 +17,7 @@ use Rattle.ways.specs.Matched.{is_bracket, brackets, Matches}
 use Rattle.ways.proofs.Reading.{First, first, none_written, seen_as}
 use Rattle.table.specs.declared.cell.Rows.{Rows}
 use Rattle.table.specs.Cells.{Knows}
-use Rattle.table.specs.Tables.{row_at, RowsOf}
+use Rattle.table.specs.Tables.{RowsOf}
 use Rattle.table.specs.Walks.{Goes}
 use Rattle.table.proofs.Most.{some_from}
 use Rattle.table.proofs.Tables.{row_read, rows_behind}

@@ -1,5 +1,5 @@
 -- A piece taken as often as can be, and the items behind it. Assumes nothing.
-use Rattle.std.proofs.Common.{◌≡◌, ℕ, zero, suc, ◌-◌, ◌≤◌, Bool, true, false, ◌||◌, List, ◌∷◌, length, is_some, Some, None, Option, sym, refl, ap, ◌∙◌, arith}
+use Rattle.std.proofs.Common.{◌≡◌, ℕ, zero, suc, ◌-◌, ◌≤◌, true, false, ◌||◌, List, ◌∷◌, length, is_some, Some, None, Option, sym, refl, ap, ◌∙◌, arith}
 use Rattle.grammar.specs.Grammar as g
 use Rattle.ways.specs.Match.{Way, step, then, else, from, most, run}
 use Rattle.ways.proofs.Prefers.{step_on, step_within}

@@ -1,5 +1,5 @@
 -- A table grows by a row, for one item more at the front. Assumes nothing.
-use Rattle.std.proofs.Common.{◌≡◌, ℕ, zero, suc, ◌+◌, ◌-◌, ◌<◌, ◌≤◌, min, Bool, false, is_some, List, [], ◌∷◌, ◌++◌, length, get_or, take, drop, vec_items, Vec, Bor, Some, None, Option, sym, refl, ap, ◌∙◌, subst, ⊎_elim, append_assoc, le_of_suc-le-suc, arith}
+use Rattle.std.proofs.Common.{◌≡◌, ℕ, zero, suc, ◌+◌, ◌-◌, ◌<◌, ◌≤◌, min, Bool, false, is_some, List, [], ◌∷◌, ◌++◌, length, get_or, take, drop, vec_items, Vec, Bor, Some, None, sym, refl, ap, ◌∙◌, subst, ⊎_elim, append_assoc, le_of_suc-le-suc, arith}
 use Rattle.std.specs.Str.{IsCharBoundary}
 use Rattle.std.specs.List.{AllZip, slice_get}
 use mathlib.Core.List.{map, reverse}

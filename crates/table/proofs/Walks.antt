@@ -5,7 +5,7 @@ use Rattle.grammar.specs.declared.items.Piece.{Piece}
 use Rattle.grammar.specs.declared.items.Times.{Times}
 use Rattle.grammar.specs.declared.items.Times.TheVariants as u
 use Rattle.grammar.specs.Grammar as g
-use Rattle.grammar.specs.Items.{IsPiece, times_of}
+use Rattle.grammar.specs.Items.{IsPiece}
 use Rattle.ways.specs.declared.cursor.Cursor.{Cursor}
 use Rattle.ways.specs.Match.{step, then, else, from, run}
 use Rattle.ways.specs.Pieces.{Steps}

@@ -40,4 +40,5 @@ Tells item at rows r =
 
 -- a row of any items js gives one of the item and them
 abbrev pub RowOn : Item → List ℕ → List Bool → List Bool → Type 0
-RowOn item l below cells = (y : g.Item) (js : List g.Item) → IsItem item y → Row l (leading js) below → Row l (leading (y ∷ js)) cells
+RowOn item l below cells =
+    (y : g.Item) (js : List g.Item) → IsItem item y → Row l (leading js) below → Row l (leading (y ∷ js)) cells

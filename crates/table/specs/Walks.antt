@@ -27,7 +27,7 @@ GoesMost t at rows r =
     → Knows at.line.now (g.takes x v ∷ js) rows.here.now → Knows at.line.now js rows.below.now
     → run at.line.now (g.takes x g.many ∷ js) at.place ≡ from r (run at.line.now js r)
 
--- where there is a way of the piece, as often as it is written, and the items js behind, the first one leads from there to r first
+-- where there is a way of the piece, as often as it is written, and of the items js behind, the first leads from there to r first
 abbrev pub Goes : Piece → Times → Cursor → Rows → ℕ → Type 0
 Goes t times at rows r =
     (x : g.Piece) (v : g.Times) (js : List g.Item) → IsPiece t x → times ≡ times_of v
@@ -35,8 +35,9 @@ Goes t times at rows r =
     → is_some (run at.line.now (g.takes x v ∷ js) at.place) ≡ true
     → run at.line.now (g.takes x v ∷ js) at.place ≡ from r (run at.line.now js r)
 
--- where there is a way of the items that are written so, up to the next bar, and the rows are theirs, m is the first one's match
+-- where there is a way of the items that are written so, up to the next bar, and the rows are theirs, m is the match of the first
 abbrev pub Follows : {Z : Type 0} → List (Vec Bool Z) → List ℕ → Cursor → Matched → Type 0
 Follows rows bytes at m =
-    (is : List g.Item) → Written bytes is → RowsOf at.line.now is rows → is_some (run at.line.now (leading is) at.place) ≡ true
+    (is : List g.Item) → Written bytes is → RowsOf at.line.now is rows
+    → is_some (run at.line.now (leading is) at.place) ≡ true
     → Matches (leading is) at.place (run at.line.now (leading is) at.place) (Some m)

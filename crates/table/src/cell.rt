@@ -28,9 +28,12 @@ impl<'r> Rows<'r> {
     {
         match (times, from.step(piece)) {
             (Times::Once, Some(next)) => is_set(self.below, next.place),
-            (Times::Maybe, Some(next)) => is_set(self.below, next.place) || is_set(self.below, from.place),
-            (Times::Many, Some(next)) => is_set(self.here, next.place) || is_set(self.below, from.place),
-            (Times::Some, Some(next)) => is_set(self.here, next.place) || is_set(self.below, next.place),
+            (Times::Maybe, Some(next)) => is_set(self.below, next.place)
+                || is_set(self.below, from.place),
+            (Times::Many, Some(next)) => is_set(self.here, next.place)
+                || is_set(self.below, from.place),
+            (Times::Some, Some(next)) => is_set(self.here, next.place)
+                || is_set(self.below, next.place),
             (Times::Maybe | Times::Many, None) => is_set(self.below, from.place),
             (Times::Once | Times::Some, None) => false,
         }

@@ -32,9 +32,7 @@ fn list<'a>(heap: Global, items: Items<'a>) -> Result<Vec<Item<'a>>, AllocError>
 fn last_row(heap: Global, line: &str) -> Result<Vec<bool>, AllocError>
     ensures { IfOk result (λ v. Row line.now [] v.items) }
 {
-    let mut row = vec![in heap; true; line.len()]?;
-    row.push(true)?;
-    Ok(row)
+    vec![in heap; true; line.len() + 1]
 }
 
 impl Table {

@@ -30,10 +30,10 @@ impl<'r> Rows<'r> {
     {
         match (times, from.step(piece)) {
             (Times::Once, Some(next)) => next,
-            (Times::Maybe, Some(next)) => if is_set(self.below, next.place) { next } else { *from },
+            (Times::Maybe, Some(next)) if is_set(self.below, next.place) => next,
             (Times::Many, _) => self.most(piece, from),
             (Times::Some, Some(next)) => self.most(piece, &next),
-            (Times::Once | Times::Maybe | Times::Some, None) => *from,
+            (Times::Once | Times::Maybe | Times::Some, _) => *from,
         }
     }
 }

@@ -34,7 +34,10 @@ fn follow(mut rows: &[Vec<bool>], items: &Items<'_>, from: &Cursor<'_>) -> Match
         left = others;
         rows = &rows[1..];
     }
-    Matched { end: end.place, brackets }
+    Matched {
+        end: end.place,
+        brackets,
+    }
 }
 
 impl Table {
@@ -52,7 +55,11 @@ impl FindWay for Table {
 
     ghost serves = { λ t e l. Filled e l t };
 
-    fn find_way(&mut self, start: &Start<'_>, from: &Cursor<'_>) -> Result<Option<Matched>, Infallible> {
+    fn find_way(
+        &mut self,
+        start: &Start<'_>,
+        from: &Cursor<'_>,
+    ) -> Result<Option<Matched>, Infallible> {
         let rows = self.rows_from(start);
         match rows.first() {
             Some(row) if is_set(row, from.place) => Ok(Some(follow(rows, &start.items, from))),

@@ -1,4 +1,4 @@
-use Rattle.std.proofs.Common.{ℕ, List, length, vec_items}
+use Rattle.std.proofs.Common.{List, length, vec_items}
 use Rattle.grammar.specs.Grammar as g
 use Rattle.grammar.specs.Items.{Written}
 use Rattle.table.proofs.Tables.{Listing}

@@ -1,4 +1,4 @@
-use Rattle.std.proofs.Common.{◌≡◌, ℕ, true, List, length, is_some}
+use Rattle.std.proofs.Common.{◌≡◌, true, List, length, is_some}
 use Rattle.grammar.specs.Grammar as g
 use Rattle.grammar.specs.Items.{Written}
 use Rattle.ways.specs.Match.{run}

@@ -1,4 +1,4 @@
-use Rattle.std.proofs.Common.{ℕ, ◌-◌, length}
+use Rattle.std.proofs.Common.{◌-◌, length}
 use Rattle.table.proofs.Walks.{Mosts}
 use Rattle.table.proofs.cell.Rows.most.Given as goal
 

@@ -1,6 +1,5 @@
-use Rattle.std.proofs.Common.{◌≡◌, ℕ, Bool, Bor, List, [], ◌∷◌, ◌++◌, vec_items, Vec, sym, ap, ◌∙◌, subst}
+use Rattle.std.proofs.Common.{◌≡◌, ℕ, Bor, List, [], ◌∷◌, vec_items, sym, ap, ◌∙◌, subst}
 use Rattle.std.specs.List.{AllZip}
-use Rattle.std.specs.declared.alloc.Global.{Global}
 use Rattle.std.proofs.lemmas.List.{reverse-reverse, reverse-append}
 use Rattle.std.proofs.lemmas.Iterator.Adapters.{YieldsList-from_rev_slice}
 use Rattle.std.proofs.lemmas.Iterator.Consumers.{YieldsList-end}
@@ -8,9 +7,8 @@ use mathlib.Core.List.{map, reverse}
 use Rattle.grammar.specs.declared.items.Item.{Item}
 use Rattle.grammar.specs.Items.{IsItem, Written}
 use Rattle.grammar.specs.Parse.{items}
-use Rattle.table.specs.Cells.{RowOn}
 use Rattle.table.specs.Tables.{RowsOf}
-use Rattle.table.proofs.Tables.{Growing, growing_more, legal_written}
+use Rattle.table.proofs.Tables.{growing_more, legal_written}
 use Rattle.table.proofs.fill.Table.fill.Goals as goal
 
 pub loop-item-preserved : goal.loop-item-preserved
