@@ -1,14 +1,15 @@
 -- A table grows by a row, for one item more at the front. Assumes nothing.
-use Rattle.std.proofs.Common.{◌≡◌, ℕ, zero, suc, ◌+◌, ◌-◌, ◌<◌, ◌≤◌, min, Bool, false, is_some, List, [], ◌∷◌, ◌++◌, length, get_or, take, drop, vec_items, Vec, Bor, Some, None, sym, refl, ap, ◌∙◌, subst, ⊎_elim, append_assoc, le_of_suc-le-suc, arith}
+use Rattle.std.proofs.Common.{◌≡◌, ℕ, zero, suc, ◌+◌, ◌-◌, ◌<◌, ◌≤◌, min, Bool, false, is_some, List, [], ◌∷◌, ◌++◌, length, get_or, take, drop, vec_items, Vec, Bor, Some, None, sym, refl, ap, ◌∙◌, subst, ⊎_elim, le_of_suc-le-suc, arith}
 use Rattle.std.specs.Str.{IsCharBoundary}
 use Rattle.std.specs.List.{AllZip, slice_get}
+use Rattle.std.specs.Iterator.{Yields as Comes}
 use mathlib.Core.List.{map, reverse}
-use Rattle.std.proofs.lemmas.List.{append-nil, map-append, reverse-append, length-drop, drop-drop, drop_all, take_rest}
+use Rattle.std.proofs.lemmas.List.{map-append, reverse-append, length-drop, drop-drop, drop_all, take_rest}
 use Rattle.std.proofs.lemmas.Bool.{cases_lt}
 use Rattle.grammar.specs.declared.items.Item.{Item}
 use Rattle.grammar.specs.declared.items.Items.{Items}
 use Rattle.grammar.specs.Grammar as g
-use Rattle.grammar.specs.Items.{IsItem, Written, Reads}
+use Rattle.grammar.specs.Items.{IsItem, Written, Reads, Yields}
 use Rattle.grammar.specs.Parse.{items, Spelled}
 use Rattle.grammar.specs.Reader.{refusal}
 use Rattle.grammar.proofs.Judging.{spelled}
@@ -21,27 +22,12 @@ use Rattle.table.specs.Cells.{Row, RowOn}
 use Rattle.table.specs.Tables.{row_at, RowsOf}
 
 -- ===== the list of the items
--- of the items is some are listed, and the others are left, written so
-pub record Listing (is : List g.Item) (bytes : List ℕ) (listed : List Item) : Type 0 where
-  pub tail : List g.Item
-  pub written : Written bytes tail
-  pub goes : (xs : List Item) → AllZip IsItem xs tail → AllZip IsItem (listed ++ xs) is
-
-module _ {is : List g.Item} {bytes : List ℕ} {listed : List Item} (s : Listing is bytes listed) where
-  pub listing_more : (item : Item) (others : Items) → Reads bytes (Some (item, others)) → Listing is others.rest.now (listed ++ item ∷ [])
-  listing_more item others reads =
-      let f = first bytes item others reads s.tail s.written in
-      record {
-        tail = f.tail;
-        written = f.behind;
-        goes = λ xs h. subst (λ ys. AllZip IsItem ys is) (sym (append_assoc listed (item ∷ []) xs))
-            (s.goes (item ∷ xs) (subst (AllZip IsItem (item ∷ xs)) (sym f.split) (f.here, h)));
-      }
-
-  pub listing_all : Reads bytes None → AllZip IsItem listed is
-  listing_all reads =
-      subst (λ ys. AllZip IsItem ys is) (append-nil listed)
-      (s.goes [] (subst (AllZip IsItem []) (sym (none_written bytes reads s.tail s.written)) tt))
+-- those that come, up to the end, are those that are written
+pub listed : (xs : List Item) (s t u : Items) → Comes Yields s xs t → Yields t None u → (is : List g.Item) → Written s.rest.now is → AllZip IsItem xs is
+listed [] s t u same none is w = subst (AllZip IsItem []) (sym (none_written s.rest.now (subst (λ (k : Items). Reads k.rest.now None) (sym same) none) is w)) tt
+listed (x ∷ xs) s t u (j, step, more) none is w =
+    let f = first s.rest.now x j step is w in
+    subst (AllZip IsItem (x ∷ xs)) (sym f.split) (f.here, listed xs j t u more none f.tail f.behind)
 
 -- an expression that is not refused is written by its items
 pub legal_written : (e : List ℕ) → refusal e ≡ None → Written e (items e)

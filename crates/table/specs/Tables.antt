@@ -1,9 +1,6 @@
 -- What a table remembers of an expression and a line. Assumes nothing.
 use Rattle.std.specs.Prelude.{◌≡◌, ℕ, zero, suc, ◌≤◌, Bool, List, [], ◌∷◌, length, drop, vec_items, Vec}
-use Rattle.std.specs.List.{AllZip}
-use Rattle.grammar.specs.declared.items.Item.{Item}
 use Rattle.grammar.specs.Grammar as g
-use Rattle.grammar.specs.Items.{IsItem, Written}
 use Rattle.grammar.specs.Parse.{items}
 use Rattle.ways.specs.declared.start.Start.{Start}
 use Rattle.ways.specs.Meaning.{leading}
@@ -21,10 +18,6 @@ row_at (v ∷ vs) (suc n) = row_at vs n
 pub record RowsOf {Z : Type 0} (l : List ℕ) (is : List g.Item) (rows : List (Vec Bool Z)) : Type 0 where
   pub count : length rows ≡ suc (length is)
   pub each : (n : ℕ) → n ≤ length is → Row l (leading (drop n is)) (row_at rows n)
-
--- the items that are written so are listed
-abbrev pub Lists : List ℕ → List Item → Type 0
-Lists bytes listed = (is : List g.Item) → Written bytes is → AllZip IsItem listed is
 
 -- the rows of all items of e
 abbrev pub Filled : List ℕ → List ℕ → Table → Type 0
