@@ -59,3 +59,8 @@ Parted (y ∷ is) (Some r) = IsItem r.0 y × Written r.1.rest.now is
 -- whatever items are written, the first of them is read, and the others are left
 abbrev pub Reads : List ℕ → Option (Item × Items) → Type 0
 Reads bytes r = (is : List g.Item) → Written bytes is → Parted is r
+
+-- an item that comes is the first of those that are left
+abbrev pub Yields : Items → Option Item → Items → Type 0
+Yields s None t = Reads s.rest.now None
+Yields s (Some x) t = Reads s.rest.now (Some (x, t))

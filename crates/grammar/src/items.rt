@@ -1,6 +1,7 @@
 // The items of an expression, read one at a time.
 ghost use Rattle.std.specs.Prelude.{◌≡◌, ◌<◌, ◌≤◌, length, IfSome};
-ghost use Rattle.grammar.specs.Items.{Reads};
+ghost use Rattle.std.specs.Iterator.{at_most};
+ghost use Rattle.grammar.specs.Items.{Reads, Yields};
 
 use crate::class::Class;
 use crate::set::Set;
@@ -58,6 +59,19 @@ impl<'a> Items<'a> {
         ensures reads { Reads self.now.rest.now result }
         ensures onward { IfSome result (λ r. length r.1.rest.now < length self.now.rest.now) }
     {
+        nothing();
+        unreachable!()
+    }
+}
+
+impl<'a> Iterator for Items<'a> {
+    type Item = Item<'a>;
+
+    ghost next_gives = { Yields };
+
+    ghost remaining = { λ s. at_most (length s.rest.now) };
+
+    fn next(&mut self) -> Option<Item<'a>> {
         nothing();
         unreachable!()
     }
