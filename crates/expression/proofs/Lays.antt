@@ -10,7 +10,6 @@ use Rattle.grammar.specs.declared.items.Items.{Items}
 use Rattle.grammar.specs.Grammar as g
 use Rattle.grammar.specs.Items.{IsItem, Written, Reads}
 use Rattle.matcher.specs.declared.answer.Region.{Region}
-use Rattle.ways.specs.declared.start.Start.{Start}
 use Rattle.ways.specs.Match.{Way}
 use Rattle.ways.specs.Groups.{blank, Laying, put, opening, closing, closing_on, lay, laid}
 use Rattle.ways.specs.Matched.{is_bracket, brackets}
@@ -60,17 +59,17 @@ closed_few q n (k ∷ ks) r le = (refl, omega arith)
 abbrev pub fresh : ℕ → List ℕ → Laying
 fresh n inner = record { opened = n; inner = inner; region = blank }
 
-pub begun : (s : Start) (is : List g.Item) (w : Way) (inner ps : List ℕ) → g.Good s.opened 0 is → g.written is ≡ s.items.rest.now → length w ≡ length (leading is)
-    → ps ≡ brackets (leading is) w → inner ≡ [] → Lying (fresh s.opened (reverse inner)) s.items.rest.now ps (laid (fresh s.opened []) (leading is) w)
-begun s is w inner ps good written long same none =
-    subst (λ (k : List ℕ). Lying (fresh s.opened (reverse k)) s.items.rest.now ps (laid (fresh s.opened []) (leading is) w)) (sym none)
+pub begun : (o : ℕ) (is : List g.Item) (w : Way) (bytes inner ps : List ℕ) → g.Good o 0 is → g.written is ≡ bytes → length w ≡ length (leading is)
+    → ps ≡ brackets (leading is) w → inner ≡ [] → Lying (fresh o (reverse inner)) bytes ps (laid (fresh o []) (leading is) w)
+begun o is w bytes inner ps good written long same none =
+    subst (λ (k : List ℕ). Lying (fresh o (reverse k)) bytes ps (laid (fresh o []) (leading is) w)) (sym none)
     (record {
       tail = is;
       depth = 0;
       good = good;
       written = written;
       room = omega arith;
-      so_far = laid_lays (fresh s.opened []) (leading is) w long ∙ ap (lays (fresh s.opened []) (leading is)) (sym same);
+      so_far = laid_lays (fresh o []) (leading is) w long ∙ ap (lays (fresh o []) (leading is)) (sym same);
     })
 
 pub moved : {y z : Laying} {bytes ps qs : List ℕ} {whole : Laying} → Lying z bytes qs whole → y ≡ z → ps ≡ qs → Lying y bytes ps whole

@@ -64,15 +64,13 @@ pub(crate) fn region(start: &Start<'_>, begin: usize, matched: &Matched) -> Regi
         region: Region { groups: [None; 16] },
     };
     let mut places = matched.brackets.iter().copied();
-    let mut left = start.items;
-    while let Some((item, others)) = left.split_first() {
+    for item in start.items {
         match item {
             Item::Bar => break,
             Item::Open => laying.open(places.next().unwrap_or(0)),
             Item::Close => laying.close(places.next().unwrap_or(0)),
             Item::Take(_, _) | Item::Start | Item::End | Item::Never => {}
         }
-        left = others;
     }
     laying.put(0, begin, matched.end);
     laying.region

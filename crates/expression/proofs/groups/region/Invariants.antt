@@ -13,10 +13,7 @@ use Rattle.expression.proofs.groups.region.Given as goal
 
 abbrev pub invariant-loop-item : goal.invariant-loop-item
 invariant-loop-item l = record {
-  few : l.laying.opened + length l.left.rest.now < 2 ^ 63;
+  few : l.laying.opened + length l.item-iterator.rest.now < 2 ^ 63;
   lies : (e : List ℕ) (is : List g.Item) (w : Way) → Begins e l.start is → length w ≡ length (leading is) → l.matched.brackets.items ≡ brackets (leading is) w
-      → Lying (laid_by l.laying) l.left.rest.now (iter_rest (copied_source l.places)) (laid (fresh l.start.opened []) (leading is) w);
+      → Lying (laid_by l.laying) l.item-iterator.rest.now (iter_rest (copied_source l.places)) (laid (fresh l.start.opened []) (leading is) w);
 }
-
-abbrev pub decreases-loop-item : goal.decreases-loop-item
-decreases-loop-item l = length l.left.rest.now
