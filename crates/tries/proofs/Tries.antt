@@ -1,6 +1,7 @@
 -- What the tries of an alternative come to, one item on. Assumes nothing.
 use Rattle.std.proofs.Common.{◌≡◌, ℕ, Result, Ok, Err, OnOk, OnErr, zero, suc, ◌+◌, ◌-◌, ◌<◌, ◌≤◌, true, false, eqb, ◌⊎◌, inl, inr, List, [], ◌∷◌, ◌++◌, length, take, drop, Some, None, Option, sym, refl, ap, ◌∙◌, append_assoc, length-append, arith}
 use Rattle.std.specs.Prelude.{reverse, is_some}
+use Rattle.std.proofs.lemmas.Result.{IfOk-weaker}
 use Rattle.std.proofs.lemmas.List.{append-nil, length-reverse, reverse-reverse}
 use Rattle.std.proofs.lemmas.Grind.{reverse_onto, common_steps}
 use Rattle.grammar.specs.declared.items.Piece.{Piece}
@@ -88,15 +89,9 @@ module _ (p : ℕ) (ms : List ℕ) where
       let l : length mid ≡ length ms + length bs = ap length e ∙ length-append ms (reverse bs) ∙ ap (λ n. length ms + n) (length-reverse bs) in
       omega arith
 
-  -- a bracket; where the items behind it match, its place is noted behind theirs
-  abbrev pub Noted : Option ℕ → List ℕ → List ℕ → Type 0
-  Noted None mid ns = ns ≡ mid
-  Noted (Some e) mid ns = length mid < 30 → ns ≡ mid ++ p ∷ []
-
-  pub on_bracket : (x : g.Item) (js : List g.Item) (o : Option Way) (r : Option ℕ) (mid ns : List ℕ) → is_bracket x ≡ true
-      → Ends js p o ms r mid → Noted r mid ns → Ends (x ∷ js) p (from p o) ms r ns
-  on_bracket x js o None mid ns bracket h same = (ap (from p) h.0, same ∙ h.1)
-  on_bracket x js o (Some e) mid ns bracket h pushed = (
+  pub on_bracket : (x : g.Item) (js : List g.Item) (o : Option Way) (e : ℕ) (mid ns : List ℕ) → is_bracket x ≡ true
+      → Ends js p o ms (Some e) mid → (length mid < 30 → ns ≡ mid ++ p ∷ []) → Ends (x ∷ js) p (from p o) ms (Some e) ns
+  on_bracket x js o e mid ns bracket h pushed = (
     p ∷ h.0,
     ap (from p) h.1,
     h.2,
@@ -104,6 +99,16 @@ module _ (p : ℕ) (ms : List ℕ) where
         let before : mid ≡ ms ++ reverse (brackets js h.0) = h.3 (omega arith) in
         pushed (room (brackets js h.0) mid before fits) ∙ behind (brackets js h.0) mid before),
   )
+
+  -- a bracket whose place is noted behind those of the items after it, where these match
+  abbrev pub Noted : Option ℕ → List ℕ → List ℕ → Type 0
+  Noted None mid ns = ns ≡ mid
+  Noted (Some e) mid ns = length mid < 30 → ns ≡ mid ++ p ∷ []
+
+  pub on_bracket_noted : (x : g.Item) (js : List g.Item) (o : Option Way) (r : Option ℕ) (mid ns : List ℕ) → is_bracket x ≡ true
+      → Ends js p o ms r mid → Noted r mid ns → Ends (x ∷ js) p (from p o) ms r ns
+  on_bracket_noted x js o None mid ns bracket h same = (ap (from p) h.0, same ∙ h.1)
+  on_bracket_noted x js o (Some e) mid ns bracket h pushed = on_bracket x js o e mid ns bracket h pushed
 
   -- what was tried first failed, and another try follows
   pub tried_again : (js : List g.Item) (a b : Option Way) (mid ns : List ℕ) (r : Option ℕ) → Ends js p a ms None mid → Ends js p b mid r ns → Ends js p (else a b) ms r ns
@@ -129,137 +134,169 @@ module _ (p : ℕ) (ms : List ℕ) where
   earlier l x v js q r ns h =
       earlier_by x v g.many js q (run l (g.takes x g.many ∷ js) q) r ns (most_filled (step l x) (run l js) (length l) q) h
 
--- a place is noted where the items behind it match
-pub noted_by : {T E : Type 0} (p : ℕ) (ms : List ℕ) (o : Option ℕ) (mid ns : List ℕ) (r : Result T E) → is_some o ≡ true
-    → OnOk r (ns ≡ mid ++ p ∷ []) → OnErr r (length mid ≡ 30) → Noted p ms o mid ns
-noted_by p ms None mid ns r some ok err = cc
-noted_by p ms (Some e) mid ns (Ok x) some ok err = λ fits. ok
-noted_by p ms (Some e) mid ns (Err x) some ok err = λ fits. absurd (omega arith)
-
-pub not_noted : (p : ℕ) (ms : List ℕ) (o : Option ℕ) (mid ns : List ℕ) → is_some o ≡ false → ns ≡ mid → Noted p ms o mid ns
-not_noted p ms None mid ns none same = same
-not_noted p ms (Some e) mid ns none same = cc
-
 -- ===== the items
-module _ (items : Items) (at : Cursor) (ms : List ℕ) where
+module _ {items : Items} {at : Cursor} {ms : List ℕ} where
   -- nothing is left of the expression
   pub ends : Reads items.rest.now None → Tried items at ms (Some at.place) ms
-  ends reads is w = rw (none_written items.rest.now reads is w) (leaf at.place ms)
+  ends reads = record { ends = λ is w. rw (none_written items.rest.now reads is w) (leaf at.place ms) }
 
-  module _ (item : Item) (others : Items) (reads : Reads items.rest.now (Some (item, others))) where
+  module _ {item : Item} {others : Items} where
     -- by the first item, and the others
-    by_first : (r : Option ℕ) (ns : List ℕ) → ((y : g.Item) (is : List g.Item) → IsItem item y → Written others.rest.now is → EndsAt at (leading (y ∷ is)) ms r ns) → Tried items at ms r ns
-    by_first r ns go [] w = absurd (reads [] w)
-    by_first r ns go (y ∷ is) w = let h = reads (y ∷ is) w in go y is h.0 h.1
+    by_first : (r : Option ℕ) (ns : List ℕ) → Reads items.rest.now (Some (item, others))
+        → ((y : g.Item) (is : List g.Item) → IsItem item y → Written others.rest.now is → EndsAt at (leading (y ∷ is)) ms r ns) → Tried items at ms r ns
+    by_first r ns reads go = record { ends = by }
+      where
+        by : (is : List g.Item) → Written items.rest.now is → EndsAt at (leading is) ms r ns
+        by [] w = absurd (reads [] w)
+        by (y ∷ is) w = let h = reads (y ∷ is) w in go y is h.0 h.1
 
-    pub takes : (r : Option ℕ) (ns : List ℕ) (t : Piece) (v : Times) → item ≡ i.Take t v → TriedTimes t v others at ms r ns → Tried items at ms r ns
-    takes r ns t v same tried = by_first r ns (λ y is h w.
-        let s = seen_as item (i.Take t v) y same h in rw s.2 (tried s.0 s.1 is s.3 s.4 w))
+    pub takes : {r : Option ℕ} {ns : List ℕ} {t : Piece} {v : Times} → TriedTimes t v others at ms r ns → item ≡ i.Take t v → Reads items.rest.now (Some (item, others)) → Tried items at ms r ns
+    takes {r} {ns} {t} {v} tried same reads = by_first r ns reads (λ y is h w.
+        let s = seen_as item (i.Take t v) y same h in rw s.2 (tried.ends s.0 s.1 is s.3 s.4 w))
 
     -- the alternative ends at a bar
-    pub bars : item ≡ i.Bar → Tried items at ms (Some at.place) ms
-    bars same = by_first (Some at.place) ms (λ y is h w. rw (seen_as item i.Bar y same h) (leaf at.place ms))
+    pub bars : Reads items.rest.now (Some (item, others)) → item ≡ i.Bar → Tried items at ms (Some at.place) ms
+    bars reads same = by_first (Some at.place) ms reads (λ y is h w. rw (seen_as item i.Bar y same h) (leaf at.place ms))
 
-    pub starts : (r : Option ℕ) (ns : List ℕ) → item ≡ i.Start → eqb at.place 0 ≡ true → Tried others at ms r ns → Tried items at ms r ns
-    starts r ns same holds tried = by_first r ns (λ y is h w.
-        rw (seen_as item i.Start y same h, holds) (on_item at.place ms g.start (leading is) at.place (run at.line.now (leading is) at.place) r ns refl (tried is w)))
+    pub starts : {r : Option ℕ} {ns : List ℕ} → Tried others at ms r ns → item ≡ i.Start → eqb at.place 0 ≡ true → Reads items.rest.now (Some (item, others)) → Tried items at ms r ns
+    starts {r} {ns} tried same holds reads = by_first r ns reads (λ y is h w.
+        rw (seen_as item i.Start y same h, holds) (on_item at.place ms g.start (leading is) at.place (run at.line.now (leading is) at.place) r ns refl (tried.ends is w)))
 
-    pub ends_line : (r : Option ℕ) (ns : List ℕ) → item ≡ i.End → at_end at.line.now at.place ≡ true → Tried others at ms r ns → Tried items at ms r ns
-    ends_line r ns same holds tried = by_first r ns (λ y is h w.
-        rw (seen_as item i.End y same h, holds) (on_item at.place ms g.end (leading is) at.place (run at.line.now (leading is) at.place) r ns refl (tried is w)))
+    pub ends_line : {r : Option ℕ} {ns : List ℕ} → Tried others at ms r ns → item ≡ i.End → at_end at.line.now at.place ≡ true → Reads items.rest.now (Some (item, others)) → Tried items at ms r ns
+    ends_line {r} {ns} tried same holds reads = by_first r ns reads (λ y is h w.
+        rw (seen_as item i.End y same h, holds) (on_item at.place ms g.end (leading is) at.place (run at.line.now (leading is) at.place) r ns refl (tried.ends is w)))
 
     -- an item that takes nothing, and does not hold here
-    pub not_here : ((item ≡ i.Start) × (eqb at.place 0 ≡ false)) ⊎ (((item ≡ i.End) × (at_end at.line.now at.place ≡ false)) ⊎ (item ≡ i.Never)) → Tried items at ms None ms
-    not_here (inl h) = by_first None ms (λ y is seen w. (rw (seen_as item i.Start y h.0 seen, h.1), refl))
-    not_here (inr (inl h)) = by_first None ms (λ y is seen w. (rw (seen_as item i.End y h.0 seen, h.1), refl))
-    not_here (inr (inr h)) = by_first None ms (λ y is seen w. (rw (seen_as item i.Never y h seen).1, refl))
+    pub not_here : Reads items.rest.now (Some (item, others)) → ((item ≡ i.Start) × (eqb at.place 0 ≡ false)) ⊎ (((item ≡ i.End) × (at_end at.line.now at.place ≡ false)) ⊎ (item ≡ i.Never)) → Tried items at ms None ms
+    not_here reads (inl h) = by_first None ms reads (λ y is seen w. (rw (seen_as item i.Start y h.0 seen, h.1), refl))
+    not_here reads (inr (inl h)) = by_first None ms reads (λ y is seen w. (rw (seen_as item i.End y h.0 seen, h.1), refl))
+    not_here reads (inr (inr h)) = by_first None ms reads (λ y is seen w. (rw (seen_as item i.Never y h seen).1, refl))
 
     -- a bracket
-    pub noted : (r : Option ℕ) (mid ns : List ℕ) → (item ≡ i.Open) ⊎ (item ≡ i.Close) → Tried others at ms r mid → Noted at.place ms r mid ns → Tried items at ms r ns
-    noted r mid ns (inl same) tried push = by_first r ns (λ y is h w.
-        rw (seen_as item i.Open y same h) (on_bracket at.place ms g.opens (leading is) (run at.line.now (leading is) at.place) r mid ns refl (tried is w) push))
-    noted r mid ns (inr same) tried push = by_first r ns (λ y is h w.
-        rw (seen_as item i.Close y same h) (on_bracket at.place ms g.closes (leading is) (run at.line.now (leading is) at.place) r mid ns refl (tried is w) push))
+    noted : (r : Option ℕ) (mid ns : List ℕ) → Tried others at ms r mid → Noted at.place ms r mid ns → (item ≡ i.Open) ⊎ (item ≡ i.Close) → Reads items.rest.now (Some (item, others)) → Tried items at ms r ns
+    noted r mid ns tried push (inl same) reads = by_first r ns reads (λ y is h w.
+        rw (seen_as item i.Open y same h) (on_bracket_noted at.place ms g.opens (leading is) (run at.line.now (leading is) at.place) r mid ns refl (tried.ends is w) push))
+    noted r mid ns tried push (inr same) reads = by_first r ns reads (λ y is h w.
+        rw (seen_as item i.Close y same h) (on_bracket_noted at.place ms g.closes (leading is) (run at.line.now (leading is) at.place) r mid ns refl (tried.ends is w) push))
+
+    pub bracket_noted : {T E : Type 0} {r : Option ℕ} {mid ns ks : List ℕ} (pushed : Result T E) → Tried others at ms r mid → is_some r ≡ true
+        → OnOk pushed (ks ≡ mid ++ at.place ∷ []) → OnErr pushed (length mid ≡ 30) → ns ≡ ks → (item ≡ i.Open) ⊎ (item ≡ i.Close) → Reads items.rest.now (Some (item, others)) → Tried items at ms r ns
+    bracket_noted {r = r} {mid = mid} {ns = ns} {ks = ks} pushed tried some ok full same which reads = noted r mid ns tried (push r pushed some ok full) which reads
+      where
+        push : {T E : Type 0} (r : Option ℕ) (pushed : Result T E) → is_some r ≡ true → OnOk pushed (ks ≡ mid ++ at.place ∷ []) → OnErr pushed (length mid ≡ 30) → Noted at.place ms r mid ns
+        push None pushed some ok full = cc
+        push (Some e) (Ok x) some ok full = λ fits. same ∙ ok
+        push (Some e) (Err x) some ok full = λ fits. absurd (omega arith)
+
+    pub bracket_left : {r : Option ℕ} {mid ns : List ℕ} → Tried others at ms r mid → is_some r ≡ false → ns ≡ mid → (item ≡ i.Open) ⊎ (item ≡ i.Close) → Reads items.rest.now (Some (item, others)) → Tried items at ms r ns
+    bracket_left {r} {mid} {ns} tried none same which reads = noted r mid ns tried (push r none) which reads
+      where
+        push : (r : Option ℕ) → is_some r ≡ false → Noted at.place ms r mid ns
+        push None none = same
+        push (Some e) none = cc
 
 -- ===== the repeats
-module _ (t : Piece) (items : Items) (at : Cursor) (ms : List ℕ) where
-  abbrev on : List g.Item → ℕ → Option Way
-  on js q = from q (run at.line.now js q)
+abbrev on : List ℕ → List g.Item → ℕ → Option Way
+on l js q = from q (run l js q)
 
-  step_is : (o : Option Cursor) (x : g.Piece) → Steps t at.line.now at.place o → IsPiece t x → step at.line.now x at.place ≡ place_of o
-  step_is o x steps piece = sym (steps x piece)
+step_is : (t : Piece) (l : List ℕ) (p : ℕ) (o : Option Cursor) (x : g.Piece) → Steps t l p o → IsPiece t x → step l x p ≡ place_of o
+step_is t l p o x steps piece = sym (steps x piece)
+
+-- after a step to q
+after : (l : List ℕ) (q : Cursor) (js : List g.Item) (ms : List ℕ) (r : Option ℕ) (ns : List ℕ) → q.line.now ≡ l → EndsAt q js ms r ns → Ends js q.place (run l js q.place) ms r ns
+after l q js ms r ns same h = rw same at h
+
+module _ {t : Piece} {items : Items} {at : Cursor} {ms : List ℕ} where
+  pub many_on : {times : Times} {r : Option ℕ} {ns : List ℕ} → TriedMost t items at ms r ns → times ≡ u.Many → TriedTimes t times items at ms r ns
+  many_on tried is = record { ends = λ x v js piece read w. rw (seen_times_as _ u.Many v is read) (tried.ends x js piece w) }
 
   -- after a step to q
-  module _ (q : Cursor) (steps : Steps t at.line.now at.place (Some q)) (same : q.line.now ≡ at.line.now) where
-    after : (js : List g.Item) (ms : List ℕ) (r : Option ℕ) (ns : List ℕ) → EndsAt q js ms r ns → Ends js q.place (run at.line.now js q.place) ms r ns
-    after js ms r ns h = rw same at h
+  module _ {q : Cursor} where
+    pub once_on : {times : Times} {r : Option ℕ} {ns : List ℕ} → Tried items q ms r ns → times ≡ u.Once → Steps t at.line.now at.place (Some q) → q.line.now ≡ at.line.now → TriedTimes t times items at ms r ns
+    once_on {times} {r} {ns} tried is steps same = record {
+      ends = λ x v js piece read w.
+          rw (seen_times_as times u.Once v is read, step_is t at.line.now at.place (Some q) x steps piece)
+          (on_item at.place ms (g.takes x g.once) (leading js) q.place (run at.line.now (leading js) q.place) r ns refl (after at.line.now q (leading js) ms r ns same (tried.ends js w)));
+    }
 
-    pub once_on : (times : Times) (r : Option ℕ) (ns : List ℕ) → times ≡ u.Once → Tried items q ms r ns → TriedTimes t times items at ms r ns
-    once_on times r ns is tried x v js piece read w =
-        rw (seen_times_as times u.Once v is read, step_is (Some q) x steps piece)
-        (on_item at.place ms (g.takes x g.once) (leading js) q.place (run at.line.now (leading js) q.place) r ns refl (after (leading js) ms r ns (tried js w)))
+    pub some_on : {times : Times} {r : Option ℕ} {ns : List ℕ} → TriedMost t items q ms r ns → times ≡ u.Some → Steps t at.line.now at.place (Some q) → q.line.now ≡ at.line.now → TriedTimes t times items at ms r ns
+    some_on {times} {r} {ns} tried is steps same = record {
+      ends = λ x v js piece read w.
+          rw (seen_times_as times u.Some v is read, step_is t at.line.now at.place (Some q) x steps piece)
+          (earlier at.place ms at.line.now x g.some (leading js) q.place r ns (after at.line.now q (g.takes x g.many ∷ leading js) ms r ns same (tried.ends x js piece w)));
+    }
 
-    pub some_on : (times : Times) (r : Option ℕ) (ns : List ℕ) → times ≡ u.Some → TriedMost t items q ms r ns → TriedTimes t times items at ms r ns
-    some_on times r ns is tried x v js piece read w =
-        rw (seen_times_as times u.Some v is read, step_is (Some q) x steps piece)
-        (earlier at.place ms at.line.now x g.some (leading js) q.place r ns (after (g.takes x g.many ∷ leading js) ms r ns (tried x js piece w)))
+    pub maybe_first : {times : Times} {r : Option ℕ} {e : ℕ} {ns : List ℕ} → Tried items q ms r ns → r ≡ Some e → times ≡ u.Maybe → Steps t at.line.now at.place (Some q) → q.line.now ≡ at.line.now → TriedTimes t times items at ms (Some e) ns
+    maybe_first {times} {r} {e} {ns} tried found is steps same = record {
+      ends = λ x v js piece read w.
+          rw (seen_times_as times u.Maybe v is read, step_is t at.line.now at.place (Some q) x steps piece)
+          (tried_once at.place ms (g.takes x g.maybe ∷ leading js) (on at.line.now (leading js) q.place) (on at.line.now (leading js) at.place) e ns
+          (on_item at.place ms (g.takes x g.maybe) (leading js) q.place (run at.line.now (leading js) q.place) (Some e) ns refl (after at.line.now q (leading js) ms (Some e) ns same (rw found at tried.ends js w))));
+    }
 
-    pub maybe_first : (times : Times) (e : ℕ) (ns : List ℕ) → times ≡ u.Maybe → Tried items q ms (Some e) ns → TriedTimes t times items at ms (Some e) ns
-    maybe_first times e ns is tried x v js piece read w =
-        rw (seen_times_as times u.Maybe v is read, step_is (Some q) x steps piece)
-        (tried_once at.place ms (g.takes x g.maybe ∷ leading js) (on (leading js) q.place) (on (leading js) at.place) e ns
-        (on_item at.place ms (g.takes x g.maybe) (leading js) q.place (run at.line.now (leading js) q.place) (Some e) ns refl (after (leading js) ms (Some e) ns (tried js w))))
+    pub maybe_again : {times : Times} {mid : List ℕ} {r last : Option ℕ} {ns : List ℕ} → Tried items at mid last ns → Tried items q ms r mid → r ≡ None → times ≡ u.Maybe → Steps t at.line.now at.place (Some q) → q.line.now ≡ at.line.now → TriedTimes t times items at ms last ns
+    maybe_again {times} {mid} {r} {last} {ns} again tried none is steps same = record {
+      ends = λ x v js piece read w.
+          rw (seen_times_as times u.Maybe v is read, step_is t at.line.now at.place (Some q) x steps piece)
+          (tried_again at.place ms (g.takes x g.maybe ∷ leading js) (on at.line.now (leading js) q.place) (on at.line.now (leading js) at.place) mid ns last
+          (on_item at.place ms (g.takes x g.maybe) (leading js) q.place (run at.line.now (leading js) q.place) None mid refl (after at.line.now q (leading js) ms None mid same (rw none at tried.ends js w)))
+          (on_item at.place mid (g.takes x g.maybe) (leading js) at.place (run at.line.now (leading js) at.place) last ns refl (again.ends js w)));
+    }
 
-    pub maybe_again : (times : Times) (mid : List ℕ) (r : Option ℕ) (ns : List ℕ) → times ≡ u.Maybe → Tried items q ms None mid → Tried items at mid r ns → TriedTimes t times items at ms r ns
-    maybe_again times mid r ns is tried again x v js piece read w =
-        rw (seen_times_as times u.Maybe v is read, step_is (Some q) x steps piece)
-        (tried_again at.place ms (g.takes x g.maybe ∷ leading js) (on (leading js) q.place) (on (leading js) at.place) mid ns r
-        (on_item at.place ms (g.takes x g.maybe) (leading js) q.place (run at.line.now (leading js) q.place) None mid refl (after (leading js) ms None mid (tried js w)))
-        (on_item at.place mid (g.takes x g.maybe) (leading js) at.place (run at.line.now (leading js) at.place) r ns refl (again js w)))
+    pub most_first : {r : Option ℕ} {e : ℕ} {ns : List ℕ} → TriedMost t items q ms r ns → r ≡ Some e → Steps t at.line.now at.place (Some q) → q.line.now ≡ at.line.now → TriedMost t items at ms (Some e) ns
+    most_first {r} {e} {ns} tried found steps same = record {
+      ends = λ x js piece w.
+          rw (most_unfolds at.line.now x (on at.line.now (leading js)) at.place, step_is t at.line.now at.place (Some q) x steps piece)
+          (tried_once at.place ms (g.takes x g.many ∷ leading js) (run at.line.now (g.takes x g.many ∷ leading js) q.place) (on at.line.now (leading js) at.place) e ns
+          (earlier at.place ms at.line.now x g.many (leading js) q.place (Some e) ns (after at.line.now q (g.takes x g.many ∷ leading js) ms (Some e) ns same (rw found at tried.ends x js piece w))));
+    }
 
-    pub most_first : (e : ℕ) (ns : List ℕ) → TriedMost t items q ms (Some e) ns → TriedMost t items at ms (Some e) ns
-    most_first e ns tried x js piece w =
-        rw (most_unfolds at.line.now x (on (leading js)) at.place, step_is (Some q) x steps piece)
-        (tried_once at.place ms (g.takes x g.many ∷ leading js) (run at.line.now (g.takes x g.many ∷ leading js) q.place) (on (leading js) at.place) e ns
-        (earlier at.place ms at.line.now x g.many (leading js) q.place (Some e) ns (after (g.takes x g.many ∷ leading js) ms (Some e) ns (tried x js piece w))))
-
-    pub most_again : (mid : List ℕ) (r : Option ℕ) (ns : List ℕ) → TriedMost t items q ms None mid → Tried items at mid r ns → TriedMost t items at ms r ns
-    most_again mid r ns tried again x js piece w =
-        rw (most_unfolds at.line.now x (on (leading js)) at.place, step_is (Some q) x steps piece)
-        (tried_again at.place ms (g.takes x g.many ∷ leading js) (run at.line.now (g.takes x g.many ∷ leading js) q.place) (on (leading js) at.place) mid ns r
-        (earlier at.place ms at.line.now x g.many (leading js) q.place None mid (after (g.takes x g.many ∷ leading js) ms None mid (tried x js piece w)))
-        (on_item at.place mid (g.takes x g.many) (leading js) at.place (run at.line.now (leading js) at.place) r ns refl (again js w)))
+    pub most_again : {mid ks : List ℕ} {r last : Option ℕ} {ns : List ℕ} → Tried items at ks last ns → TriedMost t items q ms r mid → ks ≡ mid → r ≡ None → Steps t at.line.now at.place (Some q) → q.line.now ≡ at.line.now → TriedMost t items at ms last ns
+    most_again {mid} {ks} {r} {last} {ns} again tried kept none steps same = record {
+      ends = λ x js piece w.
+          rw (most_unfolds at.line.now x (on at.line.now (leading js)) at.place, step_is t at.line.now at.place (Some q) x steps piece)
+          (tried_again at.place ms (g.takes x g.many ∷ leading js) (run at.line.now (g.takes x g.many ∷ leading js) q.place) (on at.line.now (leading js) at.place) mid ns last
+          (earlier at.place ms at.line.now x g.many (leading js) q.place None mid (after at.line.now q (g.takes x g.many ∷ leading js) ms None mid same (rw none at tried.ends x js piece w)))
+          (on_item at.place mid (g.takes x g.many) (leading js) at.place (run at.line.now (leading js) at.place) last ns refl (rw kept at again.ends js w)));
+    }
 
   -- the piece does not take what is there
-  module _ (steps : Steps t at.line.now at.place None) where
-    pub maybe_none : (times : Times) (r : Option ℕ) (ns : List ℕ) → times ≡ u.Maybe → Tried items at ms r ns → TriedTimes t times items at ms r ns
-    maybe_none times r ns is tried x v js piece read w =
-        rw (seen_times_as times u.Maybe v is read, step_is None x steps piece)
-        (on_item at.place ms (g.takes x g.maybe) (leading js) at.place (run at.line.now (leading js) at.place) r ns refl (tried js w))
+  pub maybe_none : {times : Times} {r : Option ℕ} {ns : List ℕ} → Tried items at ms r ns → times ≡ u.Maybe → Steps t at.line.now at.place None → TriedTimes t times items at ms r ns
+  maybe_none {times} {r} {ns} tried is steps = record {
+    ends = λ x v js piece read w.
+        rw (seen_times_as times u.Maybe v is read, step_is t at.line.now at.place None x steps piece)
+        (on_item at.place ms (g.takes x g.maybe) (leading js) at.place (run at.line.now (leading js) at.place) r ns refl (tried.ends js w));
+  }
 
-    pub most_none : (r : Option ℕ) (ns : List ℕ) → Tried items at ms r ns → TriedMost t items at ms r ns
-    most_none r ns tried x js piece w =
-        rw (most_unfolds at.line.now x (on (leading js)) at.place, step_is None x steps piece)
-        (on_item at.place ms (g.takes x g.many) (leading js) at.place (run at.line.now (leading js) at.place) r ns refl (tried js w))
-
-  pub many_on : (times : Times) (r : Option ℕ) (ns : List ℕ) → times ≡ u.Many → TriedMost t items at ms r ns → TriedTimes t times items at ms r ns
-  many_on times r ns is tried x v js piece read w = rw (seen_times_as times u.Many v is read) (tried x js piece w)
+  pub most_none : {ks : List ℕ} {r : Option ℕ} {ns : List ℕ} → Tried items at ks r ns → ks ≡ ms → Steps t at.line.now at.place None → TriedMost t items at ms r ns
+  most_none {ks} {r} {ns} tried kept steps = record {
+    ends = λ x js piece w.
+        rw (most_unfolds at.line.now x (on at.line.now (leading js)) at.place, step_is t at.line.now at.place None x steps piece)
+        (on_item at.place ms (g.takes x g.many) (leading js) at.place (run at.line.now (leading js) at.place) r ns refl (rw kept at tried.ends js w));
+  }
 
 -- ===== the match of an alternative
-module _ (e : List ℕ) (s : Start) (at : Cursor) (is : List g.Item) (begins : Begins e s is) where
-  begin_written : Written s.items.rest.now is
-  begin_written = record { opened = s.opened; depth = 0; good = begins.good; written = begins.written }
+begin_written : (e : List ℕ) (s : Start) (is : List g.Item) → Begins e s is → Written s.items.rest.now is
+begin_written e s is begins = record { opened = s.opened; depth = 0; good = begins.good; written = begins.written }
 
-  pub none_found : (ms ns : List ℕ) → Tried s.items at ms None ns → run at.line.now (leading is) at.place ≡ None
-  none_found ms ns tried = (tried is begin_written).0
+-- the brackets that were noted, the other way round
+reversed : (js : List g.Item) (p q : ℕ) (o : Option Way) (ns : List ℕ) → Ends js p o [] (Some q) ns
+    → (w : Way) × (o ≡ Some w) × (end_of p w ≡ q) × (length (brackets js w) ≤ 30 → reverse ns ≡ brackets js w)
+reversed js p q o ns h = (h.0, h.1, h.2, λ fits. ap reverse (h.3 (omega arith)) ∙ reverse-reverse (brackets js h.0))
 
-  -- with its brackets, those that were noted the other way round
-  pub found : (ms ns : List ℕ) (q : ℕ) → ms ≡ [] → Tried s.items at ms (Some q) ns
+module _ {e : List ℕ} {s : Start} {at : Cursor} {is : List g.Item} {ms ns : List ℕ} {r : Option ℕ} where
+  pub none_found : Begins e s is → Tried s.items at ms r ns → r ≡ None → run at.line.now (leading is) at.place ≡ None
+  none_found begins tried none = let to_none : Tried s.items at ms None ns = rw none at tried in (to_none.ends is (begin_written e s is begins)).0
+
+  pub found : {q : ℕ} → Begins e s is → Tried s.items at ms r ns → r ≡ Some q → ms ≡ []
       → (w : Way) × (run at.line.now (leading is) at.place ≡ Some w) × (end_of at.place w ≡ q) × (length (brackets (leading is) w) ≤ 30 → reverse ns ≡ brackets (leading is) w)
-  found ms ns q empty tried =
-      let h : EndsAt at (leading is) [] (Some q) ns = rw empty at (tried is begin_written) in
-      (h.0, h.1, h.2, λ fits. ap reverse (h.3 (omega arith)) ∙ reverse-reverse (brackets (leading is) h.0))
+  found {q} begins tried some empty =
+      let to_q : Tried s.items at [] (Some q) ns = rw (some, empty) at tried in
+      reversed (leading is) at.place q (run at.line.now (leading is) at.place) ns (to_q.ends is (begin_written e s is begins))
 
 -- a list that was written over by as many
 pub refilled : (xs ys : List ℕ) → length ys ≡ length xs → take (length xs) (ys ++ drop (length ys) xs) ≡ ys
 refilled xs ys e = grind (arith, common_steps)
+
+-- what the answers of the repeats come from
+pub ruleset repeats = (IfOk-weaker, once_on, some_on, many_on, maybe_first, maybe_again, maybe_none, most_first, most_again, most_none)

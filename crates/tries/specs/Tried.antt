@@ -21,15 +21,14 @@ abbrev pub EndsAt : Cursor → List g.Item → List ℕ → Option ℕ → List 
 EndsAt from js = Ends js from.place (run from.line.now js from.place)
 
 -- the items that are left, up to the next bar
-abbrev pub Tried : Items → Cursor → List ℕ → Option ℕ → List ℕ → Type 0
-Tried items from ms r ns = (is : List g.Item) → Written items.rest.now is → EndsAt from (leading is) ms r ns
+pub record Tried (items : Items) (from : Cursor) (ms : List ℕ) (r : Option ℕ) (ns : List ℕ) : Type 0 where
+  pub ends : (is : List g.Item) → Written items.rest.now is → EndsAt from (leading is) ms r ns
 
 -- a piece, as often as it is written, and the items behind it
-abbrev pub TriedTimes : Piece → Times → Items → Cursor → List ℕ → Option ℕ → List ℕ → Type 0
-TriedTimes t times items from ms r ns =
-    (x : g.Piece) (u : g.Times) (is : List g.Item) → IsPiece t x → times ≡ times_of u → Written items.rest.now is
-    → EndsAt from (g.takes x u ∷ leading is) ms r ns
+pub record TriedTimes (t : Piece) (times : Times) (items : Items) (from : Cursor) (ms : List ℕ) (r : Option ℕ) (ns : List ℕ) : Type 0 where
+  pub ends : (x : g.Piece) (u : g.Times) (is : List g.Item) → IsPiece t x → times ≡ times_of u → Written items.rest.now is
+      → EndsAt from (g.takes x u ∷ leading is) ms r ns
 
 -- a piece, as often as can be, and the items behind it
-abbrev pub TriedMost : Piece → Items → Cursor → List ℕ → Option ℕ → List ℕ → Type 0
-TriedMost t items from ms r ns = (x : g.Piece) (is : List g.Item) → IsPiece t x → Written items.rest.now is → EndsAt from (g.takes x g.many ∷ leading is) ms r ns
+pub record TriedMost (t : Piece) (items : Items) (from : Cursor) (ms : List ℕ) (r : Option ℕ) (ns : List ℕ) : Type 0 where
+  pub ends : (x : g.Piece) (is : List g.Item) → IsPiece t x → Written items.rest.now is → EndsAt from (g.takes x g.many ∷ leading is) ms r ns

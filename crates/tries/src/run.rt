@@ -66,6 +66,7 @@ impl<L: Limit> Tries<L> {
     }
 
     // The piece, as often as `times` says, and the items behind it.
+    #[tactic(auto, using(crate::proofs::Tries::repeats))]
     #[cycle(run_run_most_run_times)]
     fn run_times(
         &mut self,
@@ -91,6 +92,7 @@ impl<L: Limit> Tries<L> {
     }
 
     // The piece as often as can be, and the items behind it.
+    #[tactic(auto, using(crate::proofs::Tries::repeats))]
     #[cycle(run_run_most_run_times)]
     fn run_most(
         &mut self,
