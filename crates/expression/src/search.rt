@@ -59,15 +59,19 @@ fn find_by<W: FindWay>(
 ) -> Result<Option<Region>, W::Stop>
     ensures { IfOk result (IsFoundFrom (W.serves way.old) alternatives.entry line.now place) }
 {
-    first_from(line, place, |at|
-        ensures found { IfOk result (IsTriedAt (W.serves way.entry.now) alternatives.entry line.entry.now at) }
-        ensures same { (e l : List ℕ) → W.serves way.entry.now e l → W.serves way.exit.now e l }
-    {
-        match Cursor::new(line, at) {
-            Some(from) => match_at(way, alternatives, &from),
-            None => Ok(None),
-        }
-    })
+    first_from(
+        line,
+        place,
+        |at|
+            ensures found { IfOk result (IsTriedAt (W.serves way.entry.now) alternatives.entry line.entry.now at) }
+            ensures same { (e l : List ℕ) → W.serves way.entry.now e l → W.serves way.exit.now e l }
+        {
+            match Cursor::new(line, at) {
+                Some(from) => match_at(way, alternatives, &from),
+                None => Ok(None),
+            }
+        },
+    )
 }
 
 // The first match from the place on.

@@ -11,11 +11,10 @@ use Rattle.chars.specs.declared.sets.Set.{Set}
 use Rattle.chars.specs.declared.sets.Set.TheVariants.{Digits, Words, Spaces}
 use Rattle.grammar.specs.declared.class.Spot.{Spot}
 use Rattle.grammar.specs.declared.class.Spot.TheVariants.{Fresh, Last, Range}
-use Rattle.grammar.specs.declared.class.Passed.{Passed}
 use Rattle.chars.specs.Sets.{in_set}
 use Rattle.grammar.specs.Grammar as g
 use Rattle.grammar.specs.Grammar.{Sign, plain, escaped, Member, one, range, every, letter, sign, value, member, members, caret, GoodSign, GoodMember, GoodMembers}
-use Rattle.grammar.specs.Classes.{in_member, in_members, in_class, unless, after_escape, passes, listed_on, listed, taken, complemented, members_of, Opens, Tests}
+use Rattle.grammar.specs.Classes.{in_member, in_members, in_class, Passed, unless, after_escape, passes, listed_on, listed, taken, complemented, members_of, Opens, Tests}
 use Rattle.grammar.proofs.Told.{is_mark, is_set, unlike, mark_low, unmarked_low}
 use Rattle.grammar.specs.Items.{shut_of}
 use Rattle.grammar.proofs.Steps.{member_on, members_shut, class_shut}

@@ -1,12 +1,11 @@
 -- Which characters a class takes. Assumes nothing.
 use Rattle.std.specs.Prelude.{◌≡◌, ℕ, ◌≤◌, Bool, true, false, cond, not, ◌||◌, List, [], ◌∷◌, drop, ◌==◌, slice_index, Some, None, Option}
+use Rattle.std.proofs.Common.{ControlFlow, Continue, Break}
 use Rattle.chars.specs.Sets.{between, in_set}
 use Rattle.grammar.specs.declared.bytes.Escaped.{Escaped}
 use Rattle.grammar.specs.declared.bytes.Escaped.TheVariants as e
 use Rattle.grammar.specs.declared.class.Spot.{Spot}
 use Rattle.grammar.specs.declared.class.Spot.TheVariants.{Fresh, Escape, Last, Range, RangeEscape}
-use Rattle.grammar.specs.declared.class.Passed.{Passed}
-use Rattle.grammar.specs.declared.class.Passed.TheVariants.{Taken, Shut, On}
 use Rattle.grammar.specs.Bytes.{escaped_of}
 use Rattle.grammar.specs.Grammar.{Member, one, range, every, value, caret, member, members, GoodMember, GoodMembers}
 
@@ -25,15 +24,18 @@ abbrev pub in_class : Bool → List Member → ℕ → Bool
 in_class false ms c = in_members ms c
 in_class true ms c = not (in_members ms c)
 
--- The test as it is computed, a byte at a time: c is taken, or the class ends, or it goes on.
+-- The test as it is computed, a byte at a time: it is known whether c is taken, or the class goes on.
+abbrev pub Passed : Type 0
+Passed = ControlFlow Bool Spot
+
 abbrev pub unless : Bool → Spot → Passed
-unless taken s = cond taken Taken (On s)
+unless taken s = cond taken (Break true) (Continue s)
 
 abbrev pub single : ℕ → ℕ → Passed
 single c b = unless (c == b) (Last b)
 
 abbrev pub fresh : ℕ → ℕ → Passed
-fresh c b = cond (b == 92) (On Escape) (cond (b == 93) Shut (single c b))
+fresh c b = cond (b == 92) (Continue Escape) (cond (b == 93) (Break false) (single c b))
 
 abbrev pub after_escape : ℕ → ℕ → Option Escaped → Passed
 after_escape c b (Some e.Mark) = single c b
@@ -47,14 +49,13 @@ up_to c low b = unless (between low b c) Fresh
 abbrev pub passes : ℕ → Spot → ℕ → Passed
 passes c Fresh b = fresh c b
 passes c Escape b = after_escape c b (escaped_of b)
-passes c (Last low) b = cond (b == 45) (On (Range low)) (fresh c b)
-passes c (Range low) b = cond (b == 92) (On (RangeEscape low)) (up_to c low b)
+passes c (Last low) b = cond (b == 45) (Continue (Range low)) (fresh c b)
+passes c (Range low) b = cond (b == 92) (Continue (RangeEscape low)) (up_to c low b)
 passes c (RangeEscape low) b = up_to c low b
 
 abbrev pub listed_on : Passed → (Spot → Bool) → Bool
-listed_on Taken f = true
-listed_on Shut f = false
-listed_on (On s) f = f s
+listed_on (Break taken) f = taken
+listed_on (Continue s) f = f s
 
 -- a member among the bytes takes c
 abbrev pub listed : ℕ → Spot → List ℕ → Bool

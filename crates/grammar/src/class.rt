@@ -6,6 +6,7 @@ ghost use Rattle.grammar.specs.Bytes.{escaped_of};
 ghost use Rattle.grammar.specs.declared.class.Spot.TheVariants.{Fresh};
 
 use crate::bytes::{Escaped, escaped_of};
+use std::ops::ControlFlow;
 
 // How far the members have been read.
 #[derive(Clone, Copy)]
@@ -21,21 +22,17 @@ enum Spot {
     RangeEscape(u8),
 }
 
-// What one byte more of a class says of a character.
-enum Passed {
-    Taken,
-    Shut,
-    On(Spot),
-}
+// What one byte more of a class says of a character: whether it is taken, once that is known, or how the class goes on.
+type Passed = ControlFlow<bool, Spot>;
 
 // The character is taken, or the class goes on.
 fn unless_taken(taken: bool, spot: Spot) -> Passed
     ensures { result ≡ unless taken spot }
 {
     if taken {
-        Passed::Taken
+        Passed::Break(true)
     } else {
-        Passed::On(spot)
+        Passed::Continue(spot)
     }
 }
 
@@ -51,8 +48,8 @@ fn fresh(c: u8, b: u8) -> Passed
     ensures { result ≡ fresh_to c b }
 {
     match b {
-        b'\\' => Passed::On(Spot::Escape),
-        b']' => Passed::Shut,
+        b'\\' => Passed::Continue(Spot::Escape),
+        b']' => Passed::Break(false),
         _ => single(c, b),
     }
 }
@@ -81,9 +78,9 @@ fn pass(c: u8, spot: Spot, b: u8) -> Passed
     match spot {
         Spot::Fresh => fresh(c, b),
         Spot::Escape => after_escape(c, b),
-        Spot::Last(low) if b == b'-' => Passed::On(Spot::Range(low)),
+        Spot::Last(low) if b == b'-' => Passed::Continue(Spot::Range(low)),
         Spot::Last(_) => fresh(c, b),
-        Spot::Range(low) if b == b'\\' => Passed::On(Spot::RangeEscape(low)),
+        Spot::Range(low) if b == b'\\' => Passed::Continue(Spot::RangeEscape(low)),
         Spot::Range(low) => up_to(c, low, b),
         Spot::RangeEscape(low) => up_to(c, low, b),
     }
@@ -96,9 +93,8 @@ fn lists(members: &[u8], c: u8) -> bool
     let mut spot = Spot::Fresh;
     for b in members {
         match pass(c, spot, *b) {
-            Passed::Taken => return true,
-            Passed::Shut => return false,
-            Passed::On(next) => spot = next,
+            Passed::Break(taken) => return taken,
+            Passed::Continue(next) => spot = next,
         }
     }
     false

@@ -69,7 +69,7 @@ pub struct Alternatives<'a> {
 
 impl<'a> Alternatives<'a> {
     ghost use Rattle.ways.specs.Meaning.{alternatives};
-    ghost use Rattle.ways.specs.Starts.{Left, Gives};
+    ghost use Rattle.ways.specs.Starts.{Left};
 
     // All of them.
     pub fn new(expression: &Expression<'a>) -> Alternatives<'a>
@@ -80,13 +80,6 @@ impl<'a> Alternatives<'a> {
             next: Some(first),
             after: first.next(),
         }
-    }
-
-    // The next one, and the others are left.
-    pub fn advance(&mut self) -> Option<Start<'a>>
-        ensures gives { (e : List ℕ) (n : ℕ) (alts : List (List g.Item)) → Left e n self.old alts → Gives e n alts result self.new }
-    {
-        self.next()
     }
 }
 
