@@ -77,16 +77,19 @@ module _ (p : ℕ) (ms : List ℕ) where
   leaf = ([], refl, refl, λ fits. sym (append-nil ms))
 
   -- an item that is no bracket ends at q
-  pub on_item : (x : g.Item) (js : List g.Item) (q : ℕ) (o : Option Way) (r : Option ℕ) (ns : List ℕ) → is_bracket x ≡ false → Ends js q o ms r ns → Ends (x ∷ js) p (from q o) ms r ns
+  pub on_item : (x : g.Item) (js : List g.Item) (q : ℕ) (o : Option Way) (r : Option ℕ) (ns : List ℕ) → is_bracket x ≡ false
+      → Ends js q o ms r ns → Ends (x ∷ js) p (from q o) ms r ns
   on_item x js q o None ns plain h = (ap (from q) h.0, h.1)
   on_item x js q o (Some e) ns plain h = (q ∷ h.0, ap (from q) h.1, h.2, rw plain h.3)
 
   behind : (bs mid : List ℕ) → mid ≡ ms ++ reverse bs → mid ++ p ∷ [] ≡ ms ++ reverse (p ∷ bs)
-  behind bs mid e = ap (λ ns. ns ++ p ∷ []) e ∙ append_assoc ms (reverse bs) (p ∷ []) ∙ ap (λ ns. ms ++ ns) (sym (reverse_onto bs p []))
+  behind bs mid e =
+      ap (λ ns. ns ++ p ∷ []) e ∙ append_assoc ms (reverse bs) (p ∷ []) ∙ ap (λ ns. ms ++ ns) (sym (reverse_onto bs p []))
 
   room : (bs mid : List ℕ) → mid ≡ ms ++ reverse bs → length ms + length (p ∷ bs) ≤ 30 → length mid < 30
   room bs mid e fits =
-      let l : length mid ≡ length ms + length bs = ap length e ∙ length-append ms (reverse bs) ∙ ap (λ n. length ms + n) (length-reverse bs) in
+      let same : length mid ≡ length ms + length (reverse bs) = ap length e ∙ length-append ms (reverse bs) in
+      let turned = length-reverse bs in
       omega arith
 
   pub on_bracket : (x : g.Item) (js : List g.Item) (o : Option Way) (e : ℕ) (mid ns : List ℕ) → is_bracket x ≡ true
@@ -111,15 +114,18 @@ module _ (p : ℕ) (ms : List ℕ) where
   on_bracket_noted x js o (Some e) mid ns bracket h pushed = on_bracket x js o e mid ns bracket h pushed
 
   -- what was tried first failed, and another try follows
-  pub tried_again : (js : List g.Item) (a b : Option Way) (mid ns : List ℕ) (r : Option ℕ) → Ends js p a ms None mid → Ends js p b mid r ns → Ends js p (else a b) ms r ns
+  pub tried_again : (js : List g.Item) (a b : Option Way) (mid ns : List ℕ) (r : Option ℕ) → Ends js p a ms None mid
+      → Ends js p b mid r ns → Ends js p (else a b) ms r ns
   tried_again js a b mid ns r h k = rw h.0 (rw h.1 at k)
 
   -- what was tried first did not fail
-  pub tried_once : (js : List g.Item) (a b : Option Way) (e : ℕ) (ns : List ℕ) → Ends js p a ms (Some e) ns → Ends js p (else a b) ms (Some e) ns
+  pub tried_once : (js : List g.Item) (a b : Option Way) (e : ℕ) (ns : List ℕ) → Ends js p a ms (Some e) ns
+      → Ends js p (else a b) ms (Some e) ns
   tried_once js a b e ns h = (h.0, ap (λ o. else o b) h.1, h.2, h.3)
 
   -- a way with a place to it from q on is also one from an earlier place, however often the piece is taken
-  earlier_by : (x : g.Piece) (v w : g.Times) (js : List g.Item) (q : ℕ) (o : Option Way) (r : Option ℕ) (ns : List ℕ) → (o ≡ Some [] → ⊥)
+  earlier_by : (x : g.Piece) (v w : g.Times) (js : List g.Item) (q : ℕ) (o : Option Way) (r : Option ℕ) (ns : List ℕ)
+      → (o ≡ Some [] → ⊥)
       → Ends (g.takes x w ∷ js) q o ms r ns → Ends (g.takes x v ∷ js) p o ms r ns
   earlier_by x v w js q o None ns filled h = h
   earlier_by x v w js q o (Some e) ns filled h = at h.0 h.1 h.2 h.3
@@ -130,7 +136,8 @@ module _ (p : ℕ) (ms : List ℕ) where
       at (a ∷ way) is ended noted = (a ∷ way, is, ended, noted)
 
   pub earlier : (l : List ℕ) (x : g.Piece) (v : g.Times) (js : List g.Item) (q : ℕ) (r : Option ℕ) (ns : List ℕ)
-      → Ends (g.takes x g.many ∷ js) q (run l (g.takes x g.many ∷ js) q) ms r ns → Ends (g.takes x v ∷ js) p (run l (g.takes x g.many ∷ js) q) ms r ns
+      → Ends (g.takes x g.many ∷ js) q (run l (g.takes x g.many ∷ js) q) ms r ns
+      → Ends (g.takes x v ∷ js) p (run l (g.takes x g.many ∷ js) q) ms r ns
   earlier l x v js q r ns h =
       earlier_by x v g.many js q (run l (g.takes x g.many ∷ js) q) r ns (most_filled (step l x) (run l js) (length l) q) h
 
@@ -163,7 +170,8 @@ module _ {items : Items} {at : Cursor} {ms : List ℕ} where
         by [] w = absurd (reads [] w)
         by (y ∷ is) w = let h = reads (y ∷ is) w in go y is h.0 h.1
 
-    pub takes : {r : Option ℕ} {ns : List ℕ} {t : Piece} {v : Times} → TriedTimes t v others at ms r ns → item ≡ i.Take t v → Tried items at ms r ns
+    pub takes : {r : Option ℕ} {ns : List ℕ} {t : Piece} {v : Times} → TriedTimes t v others at ms r ns → item ≡ i.Take t v
+        → Tried items at ms r ns
     takes {r} {ns} {t} {v} tried same = by_first r ns (λ y is h w.
         let s = seen_as item (i.Take t v) y same h in rw s.2 (tried.ends s.0 s.1 is s.3 s.4 w))
 
@@ -171,7 +179,8 @@ module _ {items : Items} {at : Cursor} {ms : List ℕ} where
     pub bars : item ≡ i.Bar → Tried items at ms (Some at.place) ms
     bars same = by_first (Some at.place) ms (λ y is h w. rw (seen_as item i.Bar y same h) (leaf at.place ms))
 
-    pub starts : {r : Option ℕ} {ns : List ℕ} → Tried others at ms r ns → item ≡ i.Start → eqb at.place 0 ≡ true → Tried items at ms r ns
+    pub starts : {r : Option ℕ} {ns : List ℕ} → Tried others at ms r ns → item ≡ i.Start → eqb at.place 0 ≡ true
+        → Tried items at ms r ns
     starts {r} {ns} tried same holds = by_first r ns (λ y is h w.
         rw (seen_as item i.Start y same h, holds) (on_item_at at at ms g.start (leading is) r ns refl refl (tried.ends is w)))
 
@@ -189,7 +198,8 @@ module _ {items : Items} {at : Cursor} {ms : List ℕ} where
 
     -- a bracket
     module _ {mid ns : List ℕ} where
-      noted : (r : Option ℕ) → Tried others at ms r mid → Noted at.place ms r mid ns → (item ≡ i.Open) ⊎ (item ≡ i.Close) → Tried items at ms r ns
+      noted : (r : Option ℕ) → Tried others at ms r mid → Noted at.place ms r mid ns → (item ≡ i.Open) ⊎ (item ≡ i.Close)
+          → Tried items at ms r ns
       noted r tried push (inl same) = by_first r ns (λ y is h w.
           rw (seen_as item i.Open y same h)
           (on_bracket_noted at.place ms g.opens (leading is) (run at.line.now (leading is) at.place) r mid ns refl (tried.ends is w) push))
@@ -197,8 +207,10 @@ module _ {items : Items} {at : Cursor} {ms : List ℕ} where
           rw (seen_as item i.Close y same h)
           (on_bracket_noted at.place ms g.closes (leading is) (run at.line.now (leading is) at.place) r mid ns refl (tried.ends is w) push))
 
-      pub bracket_noted : {T E : Type 0} {r : Option ℕ} {ks : List ℕ} (pushed : Result T E) → Tried others at ms r mid → is_some r ≡ true
-          → OnOk pushed (ks ≡ mid ++ at.place ∷ []) → OnErr pushed (length mid ≡ 30) → ns ≡ ks → (item ≡ i.Open) ⊎ (item ≡ i.Close)
+      pub bracket_noted : {T E : Type 0} {r : Option ℕ} {ks : List ℕ} (pushed : Result T E) → Tried others at ms r mid
+          → is_some r ≡ true
+          → OnOk pushed (ks ≡ mid ++ at.place ∷ []) → OnErr pushed (length mid ≡ 30) → ns ≡ ks
+          → (item ≡ i.Open) ⊎ (item ≡ i.Close)
           → Tried items at ms r ns
       bracket_noted {r = r} {ks = ks} pushed tried some ok full same which = noted r tried (push r pushed some ok full) which
         where
@@ -208,7 +220,8 @@ module _ {items : Items} {at : Cursor} {ms : List ℕ} where
           push (Some e) (Ok x) some ok full = λ fits. same ∙ ok
           push (Some e) (Err x) some ok full = λ fits. absurd (omega arith)
 
-      pub bracket_left : {r : Option ℕ} → Tried others at ms r mid → is_some r ≡ false → ns ≡ mid → (item ≡ i.Open) ⊎ (item ≡ i.Close)
+      pub bracket_left : {r : Option ℕ} → Tried others at ms r mid → is_some r ≡ false → ns ≡ mid
+          → (item ≡ i.Open) ⊎ (item ≡ i.Close)
           → Tried items at ms r ns
       bracket_left {r} tried none same which = noted r tried (push r none) which
         where
@@ -238,7 +251,8 @@ module _ {t : Piece} {items : Items} {at : Cursor} {ms : List ℕ} {r : Option �
           (earlier_at at q ms x g.some (leading js) r ns same (tried.ends x js piece w));
     }
 
-    pub maybe_first : {times : Times} {e : ℕ} → Tried items q ms r ns → r ≡ Some e → times ≡ u.Maybe → TriedTimes t times items at ms (Some e) ns
+    pub maybe_first : {times : Times} {e : ℕ} → Tried items q ms r ns → r ≡ Some e → times ≡ u.Maybe
+        → TriedTimes t times items at ms (Some e) ns
     maybe_first {times} {e} tried found is = record {
       ends = λ x v js piece read w.
           rw (seen_times_as times u.Maybe v is read, step_is t at (Some q) x steps piece)
@@ -275,14 +289,16 @@ module _ {t : Piece} {items : Items} {at : Cursor} {ms : List ℕ} {r : Option �
     }
 
   -- the piece does not take what is there
-  pub maybe_none : {times : Times} → Tried items at ms r ns → times ≡ u.Maybe → Steps t at.line.now at.place None → TriedTimes t times items at ms r ns
+  pub maybe_none : {times : Times} → Tried items at ms r ns → times ≡ u.Maybe → Steps t at.line.now at.place None
+      → TriedTimes t times items at ms r ns
   maybe_none {times} tried is steps = record {
     ends = λ x v js piece read w.
         rw (seen_times_as times u.Maybe v is read, step_is t at None x steps piece)
         (on_item_at at at ms (g.takes x g.maybe) (leading js) r ns refl refl (tried.ends js w));
   }
 
-  pub most_none : {ks : List ℕ} → Tried items at ks r ns → ks ≡ ms → Steps t at.line.now at.place None → TriedMost t items at ms r ns
+  pub most_none : {ks : List ℕ} → Tried items at ks r ns → ks ≡ ms → Steps t at.line.now at.place None
+      → TriedMost t items at ms r ns
   most_none tried kept steps = record {
     ends = λ x js piece w.
         rw (most_unfolds at.line.now x (λ p. from p (run at.line.now (leading js) p)) at.place, step_is t at None x steps piece)
@@ -290,7 +306,10 @@ module _ {t : Piece} {items : Items} {at : Cursor} {ms : List ℕ} {r : Option �
   }
 
   pub many_on : {times : Times} → TriedMost t items at ms r ns → times ≡ u.Many → TriedTimes t times items at ms r ns
-  many_on {times} tried is = record { ends = λ x v js piece read w. rw (seen_times_as times u.Many v is read) (tried.ends x js piece w) }
+  many_on {times} tried is = record {
+    ends = λ x v js piece read w.
+        rw (seen_times_as times u.Many v is read) (tried.ends x js piece w);
+  }
 
 -- ===== the match of an alternative
 begin_written : (e : List ℕ) (s : Start) (is : List g.Item) → Begins e s is → Written s.items.rest.now is
@@ -303,7 +322,9 @@ reversed js p q o ns h = (h.0, h.1, h.2, λ fits. ap reverse (h.3 (omega arith))
 
 module _ {e : List ℕ} {s : Start} {at : Cursor} {is : List g.Item} {ms ns : List ℕ} {r : Option ℕ} where
   pub none_found : Begins e s is → Tried s.items at ms r ns → r ≡ None → run at.line.now (leading is) at.place ≡ None
-  none_found begins tried none = let to_none : Tried s.items at ms None ns = rw none at tried in (to_none.ends is (begin_written e s is begins)).0
+  none_found begins tried none =
+      let to_none : Tried s.items at ms None ns = rw none at tried in
+      (to_none.ends is (begin_written e s is begins)).0
 
   pub found : {q : ℕ} → Begins e s is → Tried s.items at ms r ns → r ≡ Some q → ms ≡ []
       → (w : Way) × (run at.line.now (leading is) at.place ≡ Some w) × (end_of at.place w ≡ q) × (length (brackets (leading is) w) ≤ 30 → reverse ns ≡ brackets (leading is) w)

@@ -21,7 +21,8 @@ run-returns-after-is_some g t c =
     let ns = c.if-is_some.self.brackets.items in
     elim c.if-is_some.branch [
       | run-then-is_some w ↦
-          bracket_noted reads {ns = ns} w.try_push.result tried (cc) w.try_push.ensures.ok w.try_push.ensures.full (rw w.self-is) c.in-Open.is
+          bracket_noted reads {ns = ns} w.try_push.result tried (cc)
+          w.try_push.ensures.ok w.try_push.ensures.full (rw w.self-is) c.in-Open.is
       | run-else-is_some w ↦ bracket_left reads {ns = ns} tried (cc) (cc) c.in-Open.is
     ]
 
