@@ -1,5 +1,5 @@
 -- What the tries of an alternative come to, one item on. Assumes nothing.
-use Rattle.std.proofs.Common.{◌≡◌, ℕ, Result, Ok, Err, OnOk, OnErr, zero, suc, ◌+◌, ◌-◌, ◌<◌, ◌≤◌, true, false, eqb, ◌⊎◌, inl, inr, List, [], ◌∷◌, ◌++◌, length, take, drop, Some, None, Option, sym, refl, ap, ◌∙◌, append_assoc, length-append, arith}
+use Rattle.std.proofs.Common.{◌≡◌, ℕ, Result, Ok, Err, OnOk, OnErr, zero, suc, ◌+◌, ◌-◌, ◌<◌, ◌≤◌, true, false, eqb, ◌⊎◌, inl, inr, List, [], ◌∷◌, ◌++◌, length, take, drop, Some, None, Option, sym, refl, ap, ◌∙◌, subst, append_assoc, length-append, arith}
 use Rattle.std.specs.Prelude.{reverse, is_some}
 use Rattle.std.proofs.lemmas.Result.{IfOk-weaker}
 use Rattle.std.proofs.lemmas.List.{append-nil, length-reverse, reverse-reverse}
@@ -77,16 +77,19 @@ module _ (p : ℕ) (ms : List ℕ) where
   leaf = ([], refl, refl, λ fits. sym (append-nil ms))
 
   -- an item that is no bracket ends at q
-  pub on_item : (x : g.Item) (js : List g.Item) (q : ℕ) (o : Option Way) (r : Option ℕ) (ns : List ℕ) → is_bracket x ≡ false → Ends js q o ms r ns → Ends (x ∷ js) p (from q o) ms r ns
+  pub on_item : (x : g.Item) (js : List g.Item) (q : ℕ) (o : Option Way) (r : Option ℕ) (ns : List ℕ) → is_bracket x ≡ false
+      → Ends js q o ms r ns → Ends (x ∷ js) p (from q o) ms r ns
   on_item x js q o None ns plain h = (ap (from q) h.0, h.1)
   on_item x js q o (Some e) ns plain h = (q ∷ h.0, ap (from q) h.1, h.2, rw plain h.3)
 
   behind : (bs mid : List ℕ) → mid ≡ ms ++ reverse bs → mid ++ p ∷ [] ≡ ms ++ reverse (p ∷ bs)
-  behind bs mid e = ap (λ ns. ns ++ p ∷ []) e ∙ append_assoc ms (reverse bs) (p ∷ []) ∙ ap (λ ns. ms ++ ns) (sym (reverse_onto bs p []))
+  behind bs mid e =
+      ap (λ ns. ns ++ p ∷ []) e ∙ append_assoc ms (reverse bs) (p ∷ []) ∙ ap (λ ns. ms ++ ns) (sym (reverse_onto bs p []))
 
   room : (bs mid : List ℕ) → mid ≡ ms ++ reverse bs → length ms + length (p ∷ bs) ≤ 30 → length mid < 30
   room bs mid e fits =
-      let l : length mid ≡ length ms + length bs = ap length e ∙ length-append ms (reverse bs) ∙ ap (λ n. length ms + n) (length-reverse bs) in
+      let same : length mid ≡ length ms + length (reverse bs) = ap length e ∙ length-append ms (reverse bs) in
+      let turned = length-reverse bs in
       omega arith
 
   pub on_bracket : (x : g.Item) (js : List g.Item) (o : Option Way) (e : ℕ) (mid ns : List ℕ) → is_bracket x ≡ true
@@ -111,15 +114,18 @@ module _ (p : ℕ) (ms : List ℕ) where
   on_bracket_noted x js o (Some e) mid ns bracket h pushed = on_bracket x js o e mid ns bracket h pushed
 
   -- what was tried first failed, and another try follows
-  pub tried_again : (js : List g.Item) (a b : Option Way) (mid ns : List ℕ) (r : Option ℕ) → Ends js p a ms None mid → Ends js p b mid r ns → Ends js p (else a b) ms r ns
+  pub tried_again : (js : List g.Item) (a b : Option Way) (mid ns : List ℕ) (r : Option ℕ) → Ends js p a ms None mid
+      → Ends js p b mid r ns → Ends js p (else a b) ms r ns
   tried_again js a b mid ns r h k = rw h.0 (rw h.1 at k)
 
   -- what was tried first did not fail
-  pub tried_once : (js : List g.Item) (a b : Option Way) (e : ℕ) (ns : List ℕ) → Ends js p a ms (Some e) ns → Ends js p (else a b) ms (Some e) ns
+  pub tried_once : (js : List g.Item) (a b : Option Way) (e : ℕ) (ns : List ℕ) → Ends js p a ms (Some e) ns
+      → Ends js p (else a b) ms (Some e) ns
   tried_once js a b e ns h = (h.0, ap (λ o. else o b) h.1, h.2, h.3)
 
   -- a way with a place to it from q on is also one from an earlier place, however often the piece is taken
-  earlier_by : (x : g.Piece) (v w : g.Times) (js : List g.Item) (q : ℕ) (o : Option Way) (r : Option ℕ) (ns : List ℕ) → (o ≡ Some [] → ⊥)
+  earlier_by : (x : g.Piece) (v w : g.Times) (js : List g.Item) (q : ℕ) (o : Option Way) (r : Option ℕ) (ns : List ℕ)
+      → (o ≡ Some [] → ⊥)
       → Ends (g.takes x w ∷ js) q o ms r ns → Ends (g.takes x v ∷ js) p o ms r ns
   earlier_by x v w js q o None ns filled h = h
   earlier_by x v w js q o (Some e) ns filled h = at h.0 h.1 h.2 h.3
@@ -130,9 +136,22 @@ module _ (p : ℕ) (ms : List ℕ) where
       at (a ∷ way) is ended noted = (a ∷ way, is, ended, noted)
 
   pub earlier : (l : List ℕ) (x : g.Piece) (v : g.Times) (js : List g.Item) (q : ℕ) (r : Option ℕ) (ns : List ℕ)
-      → Ends (g.takes x g.many ∷ js) q (run l (g.takes x g.many ∷ js) q) ms r ns → Ends (g.takes x v ∷ js) p (run l (g.takes x g.many ∷ js) q) ms r ns
+      → Ends (g.takes x g.many ∷ js) q (run l (g.takes x g.many ∷ js) q) ms r ns
+      → Ends (g.takes x v ∷ js) p (run l (g.takes x g.many ∷ js) q) ms r ns
   earlier l x v js q r ns h =
       earlier_by x v g.many js q (run l (g.takes x g.many ∷ js) q) r ns (most_filled (step l x) (run l js) (length l) q) h
+
+-- a way that goes on from a cursor q of the same line
+pub on_item_at : (at q : Cursor) (ms : List ℕ) (x : g.Item) (js : List g.Item) (r : Option ℕ) (ns : List ℕ) → is_bracket x ≡ false
+    → q.line.now ≡ at.line.now → EndsAt q js ms r ns → Ends (x ∷ js) at.place (from q.place (run at.line.now js q.place)) ms r ns
+on_item_at at q ms x js r ns plain same h = on_item at.place ms x js q.place (run at.line.now js q.place) r ns plain (rw same at h)
+
+earlier_at : (at q : Cursor) (ms : List ℕ) (x : g.Piece) (v : g.Times) (js : List g.Item) (r : Option ℕ) (ns : List ℕ)
+    → q.line.now ≡ at.line.now → EndsAt q (g.takes x g.many ∷ js) ms r ns
+    → Ends (g.takes x v ∷ js) at.place (run at.line.now (g.takes x g.many ∷ js) q.place) ms r ns
+earlier_at at q ms x v js r ns same h =
+    earlier at.place ms at.line.now x v js q.place r ns
+    (subst (λ l. Ends (g.takes x g.many ∷ js) q.place (run l (g.takes x g.many ∷ js) q.place) ms r ns) same h)
 
 -- ===== the items
 module _ {items : Items} {at : Cursor} {ms : List ℕ} where
@@ -140,139 +159,156 @@ module _ {items : Items} {at : Cursor} {ms : List ℕ} where
   pub ends : Reads items.rest.now None → Tried items at ms (Some at.place) ms
   ends reads = record { ends = λ is w. rw (none_written items.rest.now reads is w) (leaf at.place ms) }
 
-  module _ {item : Item} {others : Items} where
+  module _ {item : Item} {others : Items} (reads : Reads items.rest.now (Some (item, others))) where
     -- by the first item, and the others
-    by_first : (r : Option ℕ) (ns : List ℕ) → Reads items.rest.now (Some (item, others))
-        → ((y : g.Item) (is : List g.Item) → IsItem item y → Written others.rest.now is → EndsAt at (leading (y ∷ is)) ms r ns) → Tried items at ms r ns
-    by_first r ns reads go = record { ends = by }
+    by_first : (r : Option ℕ) (ns : List ℕ)
+        → ((y : g.Item) (is : List g.Item) → IsItem item y → Written others.rest.now is → EndsAt at (leading (y ∷ is)) ms r ns)
+        → Tried items at ms r ns
+    by_first r ns go = record { ends = by }
       where
         by : (is : List g.Item) → Written items.rest.now is → EndsAt at (leading is) ms r ns
         by [] w = absurd (reads [] w)
         by (y ∷ is) w = let h = reads (y ∷ is) w in go y is h.0 h.1
 
-    pub takes : {r : Option ℕ} {ns : List ℕ} {t : Piece} {v : Times} → TriedTimes t v others at ms r ns → item ≡ i.Take t v → Reads items.rest.now (Some (item, others)) → Tried items at ms r ns
-    takes {r} {ns} {t} {v} tried same reads = by_first r ns reads (λ y is h w.
+    pub takes : {r : Option ℕ} {ns : List ℕ} {t : Piece} {v : Times} → TriedTimes t v others at ms r ns → item ≡ i.Take t v
+        → Tried items at ms r ns
+    takes {r} {ns} {t} {v} tried same = by_first r ns (λ y is h w.
         let s = seen_as item (i.Take t v) y same h in rw s.2 (tried.ends s.0 s.1 is s.3 s.4 w))
 
     -- the alternative ends at a bar
-    pub bars : Reads items.rest.now (Some (item, others)) → item ≡ i.Bar → Tried items at ms (Some at.place) ms
-    bars reads same = by_first (Some at.place) ms reads (λ y is h w. rw (seen_as item i.Bar y same h) (leaf at.place ms))
+    pub bars : item ≡ i.Bar → Tried items at ms (Some at.place) ms
+    bars same = by_first (Some at.place) ms (λ y is h w. rw (seen_as item i.Bar y same h) (leaf at.place ms))
 
-    pub starts : {r : Option ℕ} {ns : List ℕ} → Tried others at ms r ns → item ≡ i.Start → eqb at.place 0 ≡ true → Reads items.rest.now (Some (item, others)) → Tried items at ms r ns
-    starts {r} {ns} tried same holds reads = by_first r ns reads (λ y is h w.
-        rw (seen_as item i.Start y same h, holds) (on_item at.place ms g.start (leading is) at.place (run at.line.now (leading is) at.place) r ns refl (tried.ends is w)))
+    pub starts : {r : Option ℕ} {ns : List ℕ} → Tried others at ms r ns → item ≡ i.Start → eqb at.place 0 ≡ true
+        → Tried items at ms r ns
+    starts {r} {ns} tried same holds = by_first r ns (λ y is h w.
+        rw (seen_as item i.Start y same h, holds) (on_item_at at at ms g.start (leading is) r ns refl refl (tried.ends is w)))
 
-    pub ends_line : {r : Option ℕ} {ns : List ℕ} → Tried others at ms r ns → item ≡ i.End → at_end at.line.now at.place ≡ true → Reads items.rest.now (Some (item, others)) → Tried items at ms r ns
-    ends_line {r} {ns} tried same holds reads = by_first r ns reads (λ y is h w.
-        rw (seen_as item i.End y same h, holds) (on_item at.place ms g.end (leading is) at.place (run at.line.now (leading is) at.place) r ns refl (tried.ends is w)))
+    pub ends_line : {r : Option ℕ} {ns : List ℕ} → Tried others at ms r ns → item ≡ i.End → at_end at.line.now at.place ≡ true
+        → Tried items at ms r ns
+    ends_line {r} {ns} tried same holds = by_first r ns (λ y is h w.
+        rw (seen_as item i.End y same h, holds) (on_item_at at at ms g.end (leading is) r ns refl refl (tried.ends is w)))
 
     -- an item that takes nothing, and does not hold here
-    pub not_here : Reads items.rest.now (Some (item, others)) → ((item ≡ i.Start) × (eqb at.place 0 ≡ false)) ⊎ (((item ≡ i.End) × (at_end at.line.now at.place ≡ false)) ⊎ (item ≡ i.Never)) → Tried items at ms None ms
-    not_here reads (inl h) = by_first None ms reads (λ y is seen w. (rw (seen_as item i.Start y h.0 seen, h.1), refl))
-    not_here reads (inr (inl h)) = by_first None ms reads (λ y is seen w. (rw (seen_as item i.End y h.0 seen, h.1), refl))
-    not_here reads (inr (inr h)) = by_first None ms reads (λ y is seen w. (rw (seen_as item i.Never y h seen).1, refl))
+    pub not_here : ((item ≡ i.Start) × (eqb at.place 0 ≡ false)) ⊎ (((item ≡ i.End) × (at_end at.line.now at.place ≡ false)) ⊎ (item ≡ i.Never))
+        → Tried items at ms None ms
+    not_here (inl h) = by_first None ms (λ y is seen w. (rw (seen_as item i.Start y h.0 seen, h.1), refl))
+    not_here (inr (inl h)) = by_first None ms (λ y is seen w. (rw (seen_as item i.End y h.0 seen, h.1), refl))
+    not_here (inr (inr h)) = by_first None ms (λ y is seen w. (rw (seen_as item i.Never y h seen).1, refl))
 
     -- a bracket
-    noted : (r : Option ℕ) (mid ns : List ℕ) → Tried others at ms r mid → Noted at.place ms r mid ns → (item ≡ i.Open) ⊎ (item ≡ i.Close) → Reads items.rest.now (Some (item, others)) → Tried items at ms r ns
-    noted r mid ns tried push (inl same) reads = by_first r ns reads (λ y is h w.
-        rw (seen_as item i.Open y same h) (on_bracket_noted at.place ms g.opens (leading is) (run at.line.now (leading is) at.place) r mid ns refl (tried.ends is w) push))
-    noted r mid ns tried push (inr same) reads = by_first r ns reads (λ y is h w.
-        rw (seen_as item i.Close y same h) (on_bracket_noted at.place ms g.closes (leading is) (run at.line.now (leading is) at.place) r mid ns refl (tried.ends is w) push))
+    module _ {mid ns : List ℕ} where
+      noted : (r : Option ℕ) → Tried others at ms r mid → Noted at.place ms r mid ns → (item ≡ i.Open) ⊎ (item ≡ i.Close)
+          → Tried items at ms r ns
+      noted r tried push (inl same) = by_first r ns (λ y is h w.
+          rw (seen_as item i.Open y same h)
+          (on_bracket_noted at.place ms g.opens (leading is) (run at.line.now (leading is) at.place) r mid ns refl (tried.ends is w) push))
+      noted r tried push (inr same) = by_first r ns (λ y is h w.
+          rw (seen_as item i.Close y same h)
+          (on_bracket_noted at.place ms g.closes (leading is) (run at.line.now (leading is) at.place) r mid ns refl (tried.ends is w) push))
 
-    pub bracket_noted : {T E : Type 0} {r : Option ℕ} {mid ns ks : List ℕ} (pushed : Result T E) → Tried others at ms r mid → is_some r ≡ true
-        → OnOk pushed (ks ≡ mid ++ at.place ∷ []) → OnErr pushed (length mid ≡ 30) → ns ≡ ks → (item ≡ i.Open) ⊎ (item ≡ i.Close) → Reads items.rest.now (Some (item, others)) → Tried items at ms r ns
-    bracket_noted {r = r} {mid = mid} {ns = ns} {ks = ks} pushed tried some ok full same which reads = noted r mid ns tried (push r pushed some ok full) which reads
-      where
-        push : {T E : Type 0} (r : Option ℕ) (pushed : Result T E) → is_some r ≡ true → OnOk pushed (ks ≡ mid ++ at.place ∷ []) → OnErr pushed (length mid ≡ 30) → Noted at.place ms r mid ns
-        push None pushed some ok full = cc
-        push (Some e) (Ok x) some ok full = λ fits. same ∙ ok
-        push (Some e) (Err x) some ok full = λ fits. absurd (omega arith)
+      pub bracket_noted : {T E : Type 0} {r : Option ℕ} {ks : List ℕ} (pushed : Result T E) → Tried others at ms r mid
+          → is_some r ≡ true
+          → OnOk pushed (ks ≡ mid ++ at.place ∷ []) → OnErr pushed (length mid ≡ 30) → ns ≡ ks
+          → (item ≡ i.Open) ⊎ (item ≡ i.Close)
+          → Tried items at ms r ns
+      bracket_noted {r = r} {ks = ks} pushed tried some ok full same which = noted r tried (push r pushed some ok full) which
+        where
+          push : {T E : Type 0} (r : Option ℕ) (pushed : Result T E) → is_some r ≡ true
+              → OnOk pushed (ks ≡ mid ++ at.place ∷ []) → OnErr pushed (length mid ≡ 30) → Noted at.place ms r mid ns
+          push None pushed some ok full = cc
+          push (Some e) (Ok x) some ok full = λ fits. same ∙ ok
+          push (Some e) (Err x) some ok full = λ fits. absurd (omega arith)
 
-    pub bracket_left : {r : Option ℕ} {mid ns : List ℕ} → Tried others at ms r mid → is_some r ≡ false → ns ≡ mid → (item ≡ i.Open) ⊎ (item ≡ i.Close) → Reads items.rest.now (Some (item, others)) → Tried items at ms r ns
-    bracket_left {r} {mid} {ns} tried none same which reads = noted r mid ns tried (push r none) which reads
-      where
-        push : (r : Option ℕ) → is_some r ≡ false → Noted at.place ms r mid ns
-        push None none = same
-        push (Some e) none = cc
+      pub bracket_left : {r : Option ℕ} → Tried others at ms r mid → is_some r ≡ false → ns ≡ mid
+          → (item ≡ i.Open) ⊎ (item ≡ i.Close)
+          → Tried items at ms r ns
+      bracket_left {r} tried none same which = noted r tried (push r none) which
+        where
+          push : (r : Option ℕ) → is_some r ≡ false → Noted at.place ms r mid ns
+          push None none = same
+          push (Some e) none = cc
 
 -- ===== the repeats
-abbrev on : List ℕ → List g.Item → ℕ → Option Way
-on l js q = from q (run l js q)
+step_is : (t : Piece) (at : Cursor) (o : Option Cursor) (x : g.Piece) → Steps t at.line.now at.place o → IsPiece t x
+    → step at.line.now x at.place ≡ place_of o
+step_is t at o x steps piece = sym (steps x piece)
 
-step_is : (t : Piece) (l : List ℕ) (p : ℕ) (o : Option Cursor) (x : g.Piece) → Steps t l p o → IsPiece t x → step l x p ≡ place_of o
-step_is t l p o x steps piece = sym (steps x piece)
-
--- after a step to q
-after : (l : List ℕ) (q : Cursor) (js : List g.Item) (ms : List ℕ) (r : Option ℕ) (ns : List ℕ) → q.line.now ≡ l → EndsAt q js ms r ns → Ends js q.place (run l js q.place) ms r ns
-after l q js ms r ns same h = rw same at h
-
-module _ {t : Piece} {items : Items} {at : Cursor} {ms : List ℕ} where
-  pub many_on : {times : Times} {r : Option ℕ} {ns : List ℕ} → TriedMost t items at ms r ns → times ≡ u.Many → TriedTimes t times items at ms r ns
-  many_on tried is = record { ends = λ x v js piece read w. rw (seen_times_as _ u.Many v is read) (tried.ends x js piece w) }
-
+module _ {t : Piece} {items : Items} {at : Cursor} {ms : List ℕ} {r : Option ℕ} {ns : List ℕ} where
   -- after a step to q
-  module _ {q : Cursor} where
-    pub once_on : {times : Times} {r : Option ℕ} {ns : List ℕ} → Tried items q ms r ns → times ≡ u.Once → Steps t at.line.now at.place (Some q) → q.line.now ≡ at.line.now → TriedTimes t times items at ms r ns
-    once_on {times} {r} {ns} tried is steps same = record {
+  module _ {q : Cursor} (steps : Steps t at.line.now at.place (Some q)) (same : q.line.now ≡ at.line.now) where
+    pub once_on : {times : Times} → Tried items q ms r ns → times ≡ u.Once → TriedTimes t times items at ms r ns
+    once_on {times} tried is = record {
       ends = λ x v js piece read w.
-          rw (seen_times_as times u.Once v is read, step_is t at.line.now at.place (Some q) x steps piece)
-          (on_item at.place ms (g.takes x g.once) (leading js) q.place (run at.line.now (leading js) q.place) r ns refl (after at.line.now q (leading js) ms r ns same (tried.ends js w)));
+          rw (seen_times_as times u.Once v is read, step_is t at (Some q) x steps piece)
+          (on_item_at at q ms (g.takes x g.once) (leading js) r ns refl same (tried.ends js w));
     }
 
-    pub some_on : {times : Times} {r : Option ℕ} {ns : List ℕ} → TriedMost t items q ms r ns → times ≡ u.Some → Steps t at.line.now at.place (Some q) → q.line.now ≡ at.line.now → TriedTimes t times items at ms r ns
-    some_on {times} {r} {ns} tried is steps same = record {
+    pub some_on : {times : Times} → TriedMost t items q ms r ns → times ≡ u.Some → TriedTimes t times items at ms r ns
+    some_on {times} tried is = record {
       ends = λ x v js piece read w.
-          rw (seen_times_as times u.Some v is read, step_is t at.line.now at.place (Some q) x steps piece)
-          (earlier at.place ms at.line.now x g.some (leading js) q.place r ns (after at.line.now q (g.takes x g.many ∷ leading js) ms r ns same (tried.ends x js piece w)));
+          rw (seen_times_as times u.Some v is read, step_is t at (Some q) x steps piece)
+          (earlier_at at q ms x g.some (leading js) r ns same (tried.ends x js piece w));
     }
 
-    pub maybe_first : {times : Times} {r : Option ℕ} {e : ℕ} {ns : List ℕ} → Tried items q ms r ns → r ≡ Some e → times ≡ u.Maybe → Steps t at.line.now at.place (Some q) → q.line.now ≡ at.line.now → TriedTimes t times items at ms (Some e) ns
-    maybe_first {times} {r} {e} {ns} tried found is steps same = record {
+    pub maybe_first : {times : Times} {e : ℕ} → Tried items q ms r ns → r ≡ Some e → times ≡ u.Maybe
+        → TriedTimes t times items at ms (Some e) ns
+    maybe_first {times} {e} tried found is = record {
       ends = λ x v js piece read w.
-          rw (seen_times_as times u.Maybe v is read, step_is t at.line.now at.place (Some q) x steps piece)
-          (tried_once at.place ms (g.takes x g.maybe ∷ leading js) (on at.line.now (leading js) q.place) (on at.line.now (leading js) at.place) e ns
-          (on_item at.place ms (g.takes x g.maybe) (leading js) q.place (run at.line.now (leading js) q.place) (Some e) ns refl (after at.line.now q (leading js) ms (Some e) ns same (rw found at tried.ends js w))));
+          rw (seen_times_as times u.Maybe v is read, step_is t at (Some q) x steps piece)
+          (tried_once at.place ms (g.takes x g.maybe ∷ leading js) _ _ e ns
+          (on_item_at at q ms (g.takes x g.maybe) (leading js) (Some e) ns refl same (rw found at tried.ends js w)));
     }
 
-    pub maybe_again : {times : Times} {mid : List ℕ} {r last : Option ℕ} {ns : List ℕ} → Tried items at mid last ns → Tried items q ms r mid → r ≡ None → times ≡ u.Maybe → Steps t at.line.now at.place (Some q) → q.line.now ≡ at.line.now → TriedTimes t times items at ms last ns
-    maybe_again {times} {mid} {r} {last} {ns} again tried none is steps same = record {
+    pub maybe_again : {times : Times} {mid : List ℕ} {first : Option ℕ} → Tried items at mid r ns → Tried items q ms first mid
+        → first ≡ None → times ≡ u.Maybe → TriedTimes t times items at ms r ns
+    maybe_again {times} {mid} again tried none is = record {
       ends = λ x v js piece read w.
-          rw (seen_times_as times u.Maybe v is read, step_is t at.line.now at.place (Some q) x steps piece)
-          (tried_again at.place ms (g.takes x g.maybe ∷ leading js) (on at.line.now (leading js) q.place) (on at.line.now (leading js) at.place) mid ns last
-          (on_item at.place ms (g.takes x g.maybe) (leading js) q.place (run at.line.now (leading js) q.place) None mid refl (after at.line.now q (leading js) ms None mid same (rw none at tried.ends js w)))
-          (on_item at.place mid (g.takes x g.maybe) (leading js) at.place (run at.line.now (leading js) at.place) last ns refl (again.ends js w)));
+          rw (seen_times_as times u.Maybe v is read, step_is t at (Some q) x steps piece)
+          (tried_again at.place ms (g.takes x g.maybe ∷ leading js) _ _ mid ns r
+          (on_item_at at q ms (g.takes x g.maybe) (leading js) None mid refl same (rw none at tried.ends js w))
+          (on_item_at at at mid (g.takes x g.maybe) (leading js) r ns refl refl (again.ends js w)));
     }
 
-    pub most_first : {r : Option ℕ} {e : ℕ} {ns : List ℕ} → TriedMost t items q ms r ns → r ≡ Some e → Steps t at.line.now at.place (Some q) → q.line.now ≡ at.line.now → TriedMost t items at ms (Some e) ns
-    most_first {r} {e} {ns} tried found steps same = record {
+    pub most_first : {e : ℕ} → TriedMost t items q ms r ns → r ≡ Some e → TriedMost t items at ms (Some e) ns
+    most_first {e} tried found = record {
       ends = λ x js piece w.
-          rw (most_unfolds at.line.now x (on at.line.now (leading js)) at.place, step_is t at.line.now at.place (Some q) x steps piece)
-          (tried_once at.place ms (g.takes x g.many ∷ leading js) (run at.line.now (g.takes x g.many ∷ leading js) q.place) (on at.line.now (leading js) at.place) e ns
-          (earlier at.place ms at.line.now x g.many (leading js) q.place (Some e) ns (after at.line.now q (g.takes x g.many ∷ leading js) ms (Some e) ns same (rw found at tried.ends x js piece w))));
+          rw (most_unfolds at.line.now x (λ p. from p (run at.line.now (leading js) p)) at.place, step_is t at (Some q) x steps piece)
+          (tried_once at.place ms (g.takes x g.many ∷ leading js) _ _ e ns
+          (earlier_at at q ms x g.many (leading js) (Some e) ns same (rw found at tried.ends x js piece w)));
     }
 
-    pub most_again : {mid ks : List ℕ} {r last : Option ℕ} {ns : List ℕ} → Tried items at ks last ns → TriedMost t items q ms r mid → ks ≡ mid → r ≡ None → Steps t at.line.now at.place (Some q) → q.line.now ≡ at.line.now → TriedMost t items at ms last ns
-    most_again {mid} {ks} {r} {last} {ns} again tried kept none steps same = record {
+    pub most_again : {mid ks : List ℕ} {first : Option ℕ} → Tried items at ks r ns → TriedMost t items q ms first mid
+        → ks ≡ mid → first ≡ None → TriedMost t items at ms r ns
+    most_again {mid} again tried kept none = record {
       ends = λ x js piece w.
-          rw (most_unfolds at.line.now x (on at.line.now (leading js)) at.place, step_is t at.line.now at.place (Some q) x steps piece)
-          (tried_again at.place ms (g.takes x g.many ∷ leading js) (run at.line.now (g.takes x g.many ∷ leading js) q.place) (on at.line.now (leading js) at.place) mid ns last
-          (earlier at.place ms at.line.now x g.many (leading js) q.place None mid (after at.line.now q (g.takes x g.many ∷ leading js) ms None mid same (rw none at tried.ends x js piece w)))
-          (on_item at.place mid (g.takes x g.many) (leading js) at.place (run at.line.now (leading js) at.place) last ns refl (rw kept at again.ends js w)));
+          rw (most_unfolds at.line.now x (λ p. from p (run at.line.now (leading js) p)) at.place, step_is t at (Some q) x steps piece)
+          (tried_again at.place ms (g.takes x g.many ∷ leading js) _ _ mid ns r
+          (earlier_at at q ms x g.many (leading js) None mid same (rw none at tried.ends x js piece w))
+          (on_item_at at at mid (g.takes x g.many) (leading js) r ns refl refl (rw kept at again.ends js w)));
     }
 
   -- the piece does not take what is there
-  pub maybe_none : {times : Times} {r : Option ℕ} {ns : List ℕ} → Tried items at ms r ns → times ≡ u.Maybe → Steps t at.line.now at.place None → TriedTimes t times items at ms r ns
-  maybe_none {times} {r} {ns} tried is steps = record {
+  pub maybe_none : {times : Times} → Tried items at ms r ns → times ≡ u.Maybe → Steps t at.line.now at.place None
+      → TriedTimes t times items at ms r ns
+  maybe_none {times} tried is steps = record {
     ends = λ x v js piece read w.
-        rw (seen_times_as times u.Maybe v is read, step_is t at.line.now at.place None x steps piece)
-        (on_item at.place ms (g.takes x g.maybe) (leading js) at.place (run at.line.now (leading js) at.place) r ns refl (tried.ends js w));
+        rw (seen_times_as times u.Maybe v is read, step_is t at None x steps piece)
+        (on_item_at at at ms (g.takes x g.maybe) (leading js) r ns refl refl (tried.ends js w));
   }
 
-  pub most_none : {ks : List ℕ} {r : Option ℕ} {ns : List ℕ} → Tried items at ks r ns → ks ≡ ms → Steps t at.line.now at.place None → TriedMost t items at ms r ns
-  most_none {ks} {r} {ns} tried kept steps = record {
+  pub most_none : {ks : List ℕ} → Tried items at ks r ns → ks ≡ ms → Steps t at.line.now at.place None
+      → TriedMost t items at ms r ns
+  most_none tried kept steps = record {
     ends = λ x js piece w.
-        rw (most_unfolds at.line.now x (on at.line.now (leading js)) at.place, step_is t at.line.now at.place None x steps piece)
-        (on_item at.place ms (g.takes x g.many) (leading js) at.place (run at.line.now (leading js) at.place) r ns refl (rw kept at tried.ends js w));
+        rw (most_unfolds at.line.now x (λ p. from p (run at.line.now (leading js) p)) at.place, step_is t at None x steps piece)
+        (on_item_at at at ms (g.takes x g.many) (leading js) r ns refl refl (rw kept at tried.ends js w));
+  }
+
+  pub many_on : {times : Times} → TriedMost t items at ms r ns → times ≡ u.Many → TriedTimes t times items at ms r ns
+  many_on {times} tried is = record {
+    ends = λ x v js piece read w.
+        rw (seen_times_as times u.Many v is read) (tried.ends x js piece w);
   }
 
 -- ===== the match of an alternative
@@ -286,7 +322,9 @@ reversed js p q o ns h = (h.0, h.1, h.2, λ fits. ap reverse (h.3 (omega arith))
 
 module _ {e : List ℕ} {s : Start} {at : Cursor} {is : List g.Item} {ms ns : List ℕ} {r : Option ℕ} where
   pub none_found : Begins e s is → Tried s.items at ms r ns → r ≡ None → run at.line.now (leading is) at.place ≡ None
-  none_found begins tried none = let to_none : Tried s.items at ms None ns = rw none at tried in (to_none.ends is (begin_written e s is begins)).0
+  none_found begins tried none =
+      let to_none : Tried s.items at ms None ns = rw none at tried in
+      (to_none.ends is (begin_written e s is begins)).0
 
   pub found : {q : ℕ} → Begins e s is → Tried s.items at ms r ns → r ≡ Some q → ms ≡ []
       → (w : Way) × (run at.line.now (leading is) at.place ≡ Some w) × (end_of at.place w ≡ q) × (length (brackets (leading is) w) ≤ 30 → reverse ns ≡ brackets (leading is) w)

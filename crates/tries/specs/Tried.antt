@@ -14,7 +14,8 @@ use Rattle.ways.specs.Matched.{brackets}
 -- last one first, as long as there is room for 30
 abbrev pub Ends : List g.Item → ℕ → Option Way → List ℕ → Option ℕ → List ℕ → Type 0
 Ends js p o ms None ns = (o ≡ None) × (ns ≡ ms)
-Ends js p o ms (Some q) ns = (w : Way) × (o ≡ Some w) × (end_of p w ≡ q) × (length ms + length (brackets js w) ≤ 30 → ns ≡ ms ++ reverse (brackets js w))
+Ends js p o ms (Some q) ns =
+    (w : Way) × (o ≡ Some w) × (end_of p w ≡ q) × (length ms + length (brackets js w) ≤ 30 → ns ≡ ms ++ reverse (brackets js w))
 
 -- where they end from a place of a line on
 abbrev pub EndsAt : Cursor → List g.Item → List ℕ → Option ℕ → List ℕ → Type 0
@@ -31,4 +32,5 @@ pub record TriedTimes (t : Piece) (times : Times) (items : Items) (from : Cursor
 
 -- a piece, as often as can be, and the items behind it
 pub record TriedMost (t : Piece) (items : Items) (from : Cursor) (ms : List ℕ) (r : Option ℕ) (ns : List ℕ) : Type 0 where
-  pub ends : (x : g.Piece) (is : List g.Item) → IsPiece t x → Written items.rest.now is → EndsAt from (g.takes x g.many ∷ leading is) ms r ns
+  pub ends : (x : g.Piece) (is : List g.Item) → IsPiece t x → Written items.rest.now is
+      → EndsAt from (g.takes x g.many ∷ leading is) ms r ns

@@ -8,7 +8,8 @@ pub run-returns-in_default : goal.run-returns-in_default
 run-returns-in_default g t c = ends c.in_default.ensures.reads
 
 pub run-returns-in-Take : goal.run-returns-in-Take
-run-returns-in-Take g t c = IfOk-weaker _ _ _ (λ r tried. takes tried c.in-Take.is c.in-Some.ensures.reads) c.run_times.ensures
+run-returns-in-Take g t c =
+    IfOk-weaker _ _ _ (λ r tried. takes c.in-Some.ensures.reads tried c.in-Take.is) c.run_times.ensures
 
 pub run-returns-in-Bar : goal.run-returns-in-Bar
 run-returns-in-Bar g t c = bars c.in-Some.ensures.reads c.in-Bar.is
@@ -17,17 +18,21 @@ pub run-returns-after-is_some : goal.run-returns-after-is_some
 run-returns-after-is_some g t c =
     let tried = c.in_ok-end-in-Open.ensures in
     let reads = c.in-Some.ensures.reads in
+    let ns = c.if-is_some.self.brackets.items in
     elim c.if-is_some.branch [
       | run-then-is_some w ↦
-          bracket_noted w.try_push.result tried (cc) w.try_push.ensures.ok w.try_push.ensures.full (rw w.self-is) c.in-Open.is reads
-      | run-else-is_some w ↦ bracket_left tried (cc) (cc) c.in-Open.is reads
+          bracket_noted reads {ns = ns} w.try_push.result tried (cc)
+          w.try_push.ensures.ok w.try_push.ensures.full (rw w.self-is) c.in-Open.is
+      | run-else-is_some w ↦ bracket_left reads {ns = ns} tried (cc) (cc) c.in-Open.is
     ]
 
 pub run-returns-in-Start : goal.run-returns-in-Start
-run-returns-in-Start g t c = IfOk-weaker _ _ _ (λ r tried. starts tried c.in-Start.is (cc) c.in-Some.ensures.reads) c.run-in-Start.ensures
+run-returns-in-Start g t c =
+    IfOk-weaker _ _ _ (λ r tried. starts c.in-Some.ensures.reads tried c.in-Start.is (cc)) c.run-in-Start.ensures
 
 pub run-returns-in-End : goal.run-returns-in-End
-run-returns-in-End g t c = IfOk-weaker _ _ _ (λ r tried. ends_line tried c.in-End.is (cc) c.in-Some.ensures.reads) c.run-in-End.ensures
+run-returns-in-End g t c =
+    IfOk-weaker _ _ _ (λ r tried. ends_line c.in-Some.ensures.reads tried c.in-End.is (cc)) c.run-in-End.ensures
 
 pub run-returns-in-Start-2 : goal.run-returns-in-Start-2
 run-returns-in-Start-2 g t c = not_here c.in-Some.ensures.reads (search rules)

@@ -6,7 +6,8 @@ abbrev pub decreases-run : goal.decreases-run
 decreases-run g l = length l.items.now.rest.now * (length l.from.now.line.now + 3) + (length l.from.now.line.now + 2)
 
 abbrev pub decreases-run_most : goal.decreases-run_most
-decreases-run_most g l = (length l.items.now.rest.now + 1) * (length l.from.now.line.now + 3) + (length l.from.now.line.now - l.from.now.place)
+decreases-run_most g l =
+    (length l.items.now.rest.now + 1) * (length l.from.now.line.now + 3) + (length l.from.now.line.now - l.from.now.place)
 
 abbrev pub decreases-run_times : goal.decreases-run_times
 decreases-run_times g l = (length l.items.now.rest.now + 1) * (length l.from.now.line.now + 3) + (length l.from.now.line.now + 1)
