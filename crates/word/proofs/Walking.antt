@@ -6,7 +6,7 @@ use Rattle.chars.specs.Sets.{digit}
 use Rattle.matcher.specs.declared.answer.Region.{Region}
 use Rattle.matcher.specs.Regions.{spanning}
 use Rattle.word.specs.declared.walk.Walk.{Walk}
-use Rattle.word.specs.Meaning.{Letters, onto, read_from, words_of, same_letter, stands, free_before, free_after, first_of, word_at}
+use Rattle.words.specs.Meaning.{Letters, onto, read_from, words_of, same_letter, stands, free_before, free_after, first_of, word_at}
 use Rattle.word.specs.Walks.{walking, fresh, bar, letter_at, stepped, end_of, or_end, found}
 
 -- where the rest w of a word ends that was found up to q

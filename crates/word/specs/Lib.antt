@@ -1,9 +1,1 @@
-pub mod Grammar
-pub mod Reader
-pub mod Meaning
 pub mod Walks
-pub mod Found
-pub mod Telling
-pub mod Rests
-pub mod Spelling
-pub mod Standing

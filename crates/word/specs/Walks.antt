@@ -2,7 +2,7 @@
 use Rattle.std.specs.Prelude.{ℕ, ◌+◌, Bool, true, false, cond, not, ◌&&◌, List, [], ◌∷◌, length, Some, None, Option, ◌==◌, nat_lt, slice_index}
 use Rattle.chars.specs.Sets.{digit}
 use Rattle.word.specs.declared.walk.Walk.{Walk}
-use Rattle.word.specs.Meaning.{same_letter, free_after}
+use Rattle.words.specs.Meaning.{same_letter, free_after}
 
 abbrev pub walking : Bool → Option ℕ → Walk
 walking escaped reached = record { escaped = escaped; reached = reached }

@@ -1,17 +1,17 @@
 // The matcher: its meaning, its laws, and what a search says of the line.
 ghost use Rattle.std.specs.Prelude.{◌≡◌};
 ghost use Rattle.std.specs.Str.{IsCharBoundary};
-ghost use Rattle.word.specs.Meaning.{word_at as word_at_spec, meaning};
-ghost use Rattle.word.specs.Found.{Told};
-ghost use Rattle.word.specs.Telling;
-ghost use Rattle.word.specs.Telling.{word_lawful};
+ghost use Rattle.words.specs.Meaning.{word_at as word_at_spec, meaning};
+ghost use Rattle.words.specs.Found.{Told};
+ghost use Rattle.words.proofs.Telling;
+ghost use Rattle.words.proofs.Telling.{word_lawful};
 
-use crate::reader::State;
 use crate::walk::{first_word, free_before};
 use matcher::answer::{Answer, Illegal, Region};
 use matcher::reading;
 use matcher::search::Matcher;
 use scan::attempt::first_from;
+use words::reader::State;
 
 #[derive(Clone, Copy)]
 pub struct WordMatcher;

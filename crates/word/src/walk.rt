@@ -1,6 +1,6 @@
 // The words of an expression, held against the line at one place.
 ghost use Rattle.std.specs.Prelude.{◌≡◌, ◌≤◌, length};
-ghost use Rattle.word.specs.Meaning.{side, free_before as free_before_spec, free_after as free_after_spec};
+ghost use Rattle.words.specs.Meaning.{side, free_before as free_before_spec, free_after as free_after_spec};
 ghost use Rattle.word.specs.Walks.{fresh, bar, letter_at, stepped, end_of, found};
 
 use chars::sets::Set;

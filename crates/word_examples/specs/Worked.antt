@@ -2,8 +2,8 @@
 use Rattle.std.specs.Prelude.{◌≡◌, [], ◌∷◌, Some, None, Ok, Err, codes}
 use Rattle.matcher.specs.Answers.{illegal}
 use Rattle.matcher.specs.Regions.{spanning}
-use Rattle.word.specs.Reader.{refusal}
-use Rattle.word.specs.Meaning.{meaning}
+use Rattle.words.specs.Reader.{refusal}
+use Rattle.words.specs.Meaning.{meaning}
 
 -- where expressions are refused
 abbrev pub Places : Type 0

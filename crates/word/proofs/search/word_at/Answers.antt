@@ -1,5 +1,5 @@
 use Rattle.std.proofs.Common.{◌≡◌, ℕ, true, false, List, Some, None, Option, sym, ap, ◌∙◌}
-use Rattle.word.specs.Meaning.{free_before, words_of, word_at}
+use Rattle.words.specs.Meaning.{free_before, words_of, word_at}
 use Rattle.word.specs.Walks.{fresh, found}
 use Rattle.word.proofs.Walking.{spanned, walk_found, none_touched}
 use Rattle.word.proofs.search.word_at.Goals as goal

@@ -3,9 +3,9 @@ use Rattle.std.proofs.lemmas.Result.{err_from_is_err_and}
 use Rattle.matcher.proofs.Outside.{refused}
 use Rattle.scan.proofs.Attempts.{takes_same, finds_same}
 use Rattle.scan.proofs.Earliest.{found_answers}
-use Rattle.word.specs.Reader.{refusal}
-use Rattle.word.specs.Meaning.{word_at, meaning}
-use Rattle.word.specs.Telling.{told}
+use Rattle.words.specs.Reader.{refusal}
+use Rattle.words.specs.Meaning.{word_at, meaning}
+use Rattle.words.proofs.Telling.{told}
 use Rattle.word.proofs.search.WordMatcherMatcher.search_text.Goals as goal
 
 pub returns-in_err-check : goal.returns-in_err-check

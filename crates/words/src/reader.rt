@@ -1,6 +1,6 @@
 // How far a word expression has been read.
 ghost use Rattle.std.specs.Prelude.{◌≡◌};
-ghost use Rattle.word.specs.Reader.{next as next_of, done as done_of, begun as begun_of, inside as inside_of};
+ghost use Rattle.words.specs.Reader.{next as next_of, done as done_of, begun as begun_of, inside as inside_of};
 
 use chars::leads::{Owed, lead_of};
 use chars::marks::{is_bare, is_mark};

@@ -6,8 +6,8 @@ use Rattle.chars.specs.Sets.{digit}
 use Rattle.chars.specs.Marks.{mark, bare}
 use Rattle.chars.specs.Leads.{lead_of, goes_on, rest_of}
 use Rattle.matcher.specs.Refusals.{refuses}
-use Rattle.word.specs.declared.reader.State.{State}
-use Rattle.word.specs.declared.reader.State.TheVariants.{Empty, Filled, Escape, Inside}
+use Rattle.words.specs.declared.reader.State.{State}
+use Rattle.words.specs.declared.reader.State.TheVariants.{Empty, Filled, Escape, Inside}
 
 abbrev pub lead : Option Owed → Option State
 lead o = option_map Inside o

@@ -6,7 +6,7 @@ use Rattle.matcher.specs.declared.answer.Region.{Region}
 use Rattle.matcher.specs.Regions.{spanning}
 use Rattle.matcher.specs.Laws.{Meaning}
 use Rattle.scan.specs.Earliest.{earliest}
-use Rattle.word.specs.Reader.{refusal}
+use Rattle.words.specs.Reader.{refusal}
 
 -- the bytes of a word; none for a backslash and digit, which stands nowhere
 abbrev pub Letters : Type 0

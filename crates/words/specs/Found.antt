@@ -8,8 +8,8 @@ use Rattle.matcher.specs.declared.answer.Region.{Region}
 use Rattle.matcher.specs.Answers.{Answer}
 use Rattle.matcher.specs.Regions.{spanning}
 use Rattle.matcher.specs.Refusals.{Longest}
-use Rattle.word.specs.Grammar.{Sign, plain, wide, marked, numbered, Word, Expression, signs, words, Spells, Legal}
-use Rattle.word.specs.Meaning.{side}
+use Rattle.words.specs.Grammar.{Sign, plain, wide, marked, numbered, Word, Expression, signs, words, Spells, Legal}
+use Rattle.words.specs.Meaning.{side}
 
 -- t is the text that the signs stand for; a backslash and digit stands for none
 abbrev pub Texts : List Sign → List ℕ → Type 0

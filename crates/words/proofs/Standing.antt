@@ -1,5 +1,4 @@
 -- The test of a word at a place decides whether the word counts there. Assumes nothing.
--- Proofs alone: no contract cites what is defined here. They stand in specs/ since the laws that an impl proves can name nothing else.
 use Rattle.std.specs.Prelude.{◌≡◌, ℕ, zero, suc, ◌+◌, ◌-◌, ◌<◌, ◌≤◌, true, false, not, ◌&&◌, List, [], ◌∷◌, ◌++◌, map, length, drop, Some, IsUtf8, ◌==◌, nat_le, slice_index, refl}
 use Rattle.std.proofs.Common.{sym, ap, subst, ◌∙◌, ⊎_elim, arith, add-zero, le_of_suc-le-suc}
 use Rattle.std.proofs.Math.Utf8.{encode}
@@ -10,10 +9,10 @@ use Rattle.std.proofs.lemmas.List.{map-append, length-map, length-append, length
 use Rattle.std.proofs.lemmas.Bool.{and_parts, and_from, or_cases, or_left, or_right, not-true, not_from_false, eqb-true, eq-eqb, leb-true, le-leb, cases_lt, false≢true}
 use Rattle.std.proofs.lemmas.Str.{IsCharBoundary-after_ascii, IsCharBoundary-past_char, drop_past_char, IsUtf8-drop, length-encode}
 use Rattle.std.proofs.lemmas.Bool.Decides.{nat_tests}
-use Rattle.word.specs.Grammar.{Sign, plain, wide, marked, numbered, Word, signs, GoodSigns}
-use Rattle.word.specs.Meaning.{Letters, same_letter, stands, side, free_before, free_after, counts}
-use Rattle.word.specs.Found.{Texts, Counts}
-use Rattle.word.specs.Spelling.{spelled, spelled_word, encode_high, bare_low, mark_low}
+use Rattle.words.specs.Grammar.{Sign, plain, wide, marked, numbered, Word, signs, GoodSigns}
+use Rattle.words.specs.Meaning.{Letters, same_letter, stands, side, free_before, free_after, counts}
+use Rattle.words.specs.Found.{Texts, Counts}
+use Rattle.words.proofs.Spelling.{spelled, spelled_word, encode_high, bare_low, mark_low}
 
 texts_letters : (ss : List Sign) (t : List ℕ) → Texts ss t → spelled ss ≡ map Some t
 texts_letters [] t h = ap (map Some) (sym h)

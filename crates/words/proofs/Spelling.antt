@@ -1,5 +1,4 @@
 -- The words that the bytes of an expression spell are the words that were written. Assumes nothing.
--- Proofs alone: no contract cites what is defined here. They stand in specs/ since the laws that an impl proves can name nothing else.
 use Rattle.std.specs.Prelude.{◌≡◌, ℕ, ◌<◌, ◌≤◌, true, false, List, [], ◌∷◌, ◌++◌, map, Some, None, ◌==◌, ◌≢◌, refl}
 use Rattle.std.proofs.Common.{sym, ap, subst, ◌∙◌, ⊎_elim, arith}
 use Rattle.std.proofs.Math.Utf8.{encode}
@@ -10,8 +9,8 @@ use Rattle.std.proofs.lemmas.Bool.Decides.{nat_tests}
 use Rattle.chars.specs.Sets.{digit}
 use Rattle.chars.specs.Marks.{mark, bare}
 use Rattle.chars.proofs.Wide.{two, three, four}
-use Rattle.word.specs.Grammar.{Sign, plain, wide, marked, numbered, Word, Expression, signs, words, sign, signed, barred, GoodSign, GoodSigns, GoodWords, Spells}
-use Rattle.word.specs.Meaning.{Letters, onto, read_from, words_of}
+use Rattle.words.specs.Grammar.{Sign, plain, wide, marked, numbered, Word, Expression, signs, words, sign, signed, barred, GoodSign, GoodSigns, GoodWords, Spells}
+use Rattle.words.specs.Meaning.{Letters, onto, read_from, words_of}
 
 -- what a sign asks of the line
 abbrev pub letters : Sign → Letters

@@ -1,5 +1,4 @@
 -- What an answer of the word matcher tells, and that it obeys the laws. Assumes nothing.
--- Proofs alone: no contract cites what is defined here. They stand in specs/ since the laws that an impl proves can name nothing else.
 use Rattle.std.specs.Prelude.{◌≡◌, ℕ, zero, suc, ◌+◌, ◌≤◌, Bool, true, false, cond, ◌&&◌, List, [], ◌∷◌, ◌++◌, map, length, drop, replicate, Some, None, Ok, Err, IsUtf8, Option, slice_index_or, refl}
 use Rattle.std.proofs.Common.{sym, ap, subst, ◌∙◌, arith}
 use Rattle.std.specs.Str.{IsCharBoundary}
@@ -13,13 +12,13 @@ use Rattle.matcher.specs.Laws.{Within, Lawful}
 use Rattle.scan.specs.Earliest.{Placed}
 use Rattle.matcher.specs.Refusals.{Longest, Judged}
 use Rattle.scan.proofs.Earliest.{FoundAt, when_found, when_refused, when_nothing, nothing_at, earliest_lawful}
-use Rattle.word.specs.Grammar.{Word, Expression, signs, words, GoodSigns, GoodWords, Spells, Legal}
-use Rattle.word.specs.Reader.{refusal}
-use Rattle.word.specs.Meaning.{stands, free_before, free_after, counts, first_of, word_at, meaning}
-use Rattle.word.specs.Found.{NoneCounts, First, Told}
-use Rattle.word.specs.Rests.{judgement}
-use Rattle.word.specs.Spelling.{spelled_word, read_written}
-use Rattle.word.specs.Standing.{counts_tells, uncounted, ends_edge}
+use Rattle.words.specs.Grammar.{Word, Expression, signs, words, GoodSigns, GoodWords, Spells, Legal}
+use Rattle.words.specs.Reader.{refusal}
+use Rattle.words.specs.Meaning.{stands, free_before, free_after, counts, first_of, word_at, meaning}
+use Rattle.words.specs.Found.{NoneCounts, First, Told}
+use Rattle.words.proofs.Rests.{judgement}
+use Rattle.words.proofs.Spelling.{spelled_word, read_written}
+use Rattle.words.proofs.Standing.{counts_tells, uncounted, ends_edge}
 
 legal : (e : List ℕ) → refusal e ≡ None → Legal e
 legal e h = subst (Judged Legal e) h (judgement e)

@@ -1,5 +1,4 @@
 -- What may follow in each state of the reader, one byte on; and some end that may. Assumes nothing.
--- Proofs alone: no contract cites what is defined here. They stand in specs/ since the laws that an impl proves can name nothing else.
 use Rattle.std.specs.Prelude.{◌≡◌, ℕ, zero, suc, ◌≤◌, true, false, ◌||◌, ◌⊎◌, List, [], ◌∷◌, ◌++◌, length, Some, None, Option, ◌==◌, ◌≢◌, nat_le, refl}
 use Rattle.std.proofs.Common.{sym, ap, subst, ◌∙◌, inl, inr, ⊎_elim, arith}
 use Rattle.std.proofs.Math.Utf8.{encode}
@@ -12,11 +11,11 @@ use Rattle.chars.specs.Leads.{lead_of}
 use Rattle.chars.proofs.Wide.{Owes, Following, Begun, begun, whole, InOrder, in_order}
 use Rattle.matcher.specs.Refusals.{Judged}
 use Rattle.matcher.proofs.Longest.{From, Kept, Next, judged}
-use Rattle.word.specs.declared.reader.State.{State}
-use Rattle.word.specs.declared.reader.State.TheVariants.{Empty, Filled, Escape, Inside}
-use Rattle.word.specs.Grammar.{Sign, plain, wide, marked, numbered, Word, Expression, signs, words, sign, signed, barred, GoodSign, GoodSigns, GoodWords, Legal}
-use Rattle.word.specs.Reader.{lead, owing, next, done, refusal}
-use Rattle.word.specs.Reader.{begun as begun_by}
+use Rattle.words.specs.declared.reader.State.{State}
+use Rattle.words.specs.declared.reader.State.TheVariants.{Empty, Filled, Escape, Inside}
+use Rattle.words.specs.Grammar.{Sign, plain, wide, marked, numbered, Word, Expression, signs, words, sign, signed, barred, GoodSign, GoodSigns, GoodWords, Legal}
+use Rattle.words.specs.Reader.{lead, owing, next, done, refusal}
+use Rattle.words.specs.Reader.{begun as begun_by}
 
 -- the rest of a word, and more words
 abbrev pub After : List ℕ → Type 0

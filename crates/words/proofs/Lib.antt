@@ -1,0 +1,4 @@
+pub mod Rests
+pub mod Spelling
+pub mod Standing
+pub mod Telling
