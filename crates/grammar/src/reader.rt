@@ -88,14 +88,13 @@ impl State {
         }
     }
 
-    // The first member of a class.
+    // The first member of a class: no class is empty.
     fn first(self, b: u8) -> Option<State>
         ensures { result ≡ first self b (inside_of b) }
     {
         match inside_of(b)? {
-            Inside::Bare => self.to(Mode::ClassLast(b)),
-            Inside::Backslash => self.to(Mode::ClassEscape),
-            Inside::Shut | Inside::Dash => None,
+            Inside::Shut => None,
+            _ => self.within(b),
         }
     }
 
@@ -116,11 +115,8 @@ impl State {
         ensures { result ≡ last self low b (inside_of b) }
     {
         match inside_of(b)? {
-            Inside::Bare => self.to(Mode::ClassLast(b)),
-            Inside::Backslash => self.to(Mode::ClassEscape),
-            Inside::Shut => self.to(Mode::Plain(true)),
             Inside::Dash if low < 127 => self.to(Mode::Range(low)),
-            Inside::Dash => None,
+            _ => self.within(b),
         }
     }
 
