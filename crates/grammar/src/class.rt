@@ -81,8 +81,7 @@ fn pass(c: u8, spot: Spot, b: u8) -> Passed
         Spot::Last(low) if b == b'-' => Passed::Continue(Spot::Range(low)),
         Spot::Last(_) => fresh(c, b),
         Spot::Range(low) if b == b'\\' => Passed::Continue(Spot::RangeEscape(low)),
-        Spot::Range(low) => up_to(c, low, b),
-        Spot::RangeEscape(low) => up_to(c, low, b),
+        Spot::Range(low) | Spot::RangeEscape(low) => up_to(c, low, b),
     }
 }
 
