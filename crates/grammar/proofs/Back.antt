@@ -12,12 +12,12 @@ use Rattle.grammar.specs.declared.bytes.Inside.TheVariants as i
 use Rattle.grammar.specs.declared.bytes.Escaped.{Escaped}
 use Rattle.grammar.specs.declared.bytes.Escaped.TheVariants as e
 use Rattle.grammar.specs.declared.reader.Mode.{Mode}
-use Rattle.grammar.specs.declared.reader.Mode.TheVariants.{Plain, Escape, Owing, ClassOpen, ClassFirst, Class, ClassLast, ClassEscape, Range, RangeEscape}
+use Rattle.grammar.specs.declared.reader.Mode.TheVariants.{Plain, Taken, Escape, Owing, ClassOpen, ClassFirst, Class, ClassLast, ClassEscape, Range, RangeEscape}
 use Rattle.grammar.specs.declared.reader.State.{State}
 use Rattle.grammar.specs.Bytes.{kind_of, inside_of, escaped_of}
 use Rattle.grammar.specs.Grammar.{Sign, plain, escaped, one, range, every, char, wide, marked, any, set, class, once, maybe, many, some, takes, start, end, never, opens, closes, bar}
 use Rattle.grammar.specs.Grammar.{sign, value, member, caret, GoodSign, LegalFrom}
-use Rattle.grammar.specs.Reader.{outside, first, within, last, upper, escape, class_escape, range_escape, owed, moved, next, ends, done, to}
+use Rattle.grammar.specs.Reader.{outside, behind_piece, first, within, last, upper, escape, class_escape, range_escape, owed, moved, next, ends, done, to}
 use Rattle.grammar.proofs.Rests.{After, Members, Headed, UpperEscaped, Upper, Last, EscapedIn, First, Opened, Escaping, Rest, Rests, FromRest}
 use Rattle.grammar.proofs.Told.{Told, told, ToldIn, told_in, ToldAfter, told_after}
 
@@ -61,7 +61,7 @@ module _ (now : State) where
       let r = m.3 in
       (takes (class t m.0 r.0) r.1 ∷ r.2, ((m.2, r.3), r.4), ap (λ bs. 91 ∷ caret t bs) (ap (member m.0) r.5 ∙ m.4))
 
-  back_outside : (q : Option Kind) (b : ℕ) (bs : List ℕ) → Told q b → FromRest (outside now false q) bs → LegalFrom now.groups now.depth (b ∷ bs)
+  back_outside : (q : Option Kind) (b : ℕ) (bs : List ℕ) → Told q b → FromRest (outside now q) bs → LegalFrom now.groups now.depth (b ∷ bs)
   back_outside (Some k.Bare) b bs e h = (takes (char b) h.0 ∷ h.1, (e, h.2), ap (λ cs. b ∷ cs) h.3)
   back_outside (Some (k.Lead o)) b bs e h =
       let w = whole (After now) b bs (subst (λ q. Following (After now) q bs) e.0 h) in
@@ -87,19 +87,9 @@ module _ (now : State) where
   repeats b bs (inr (inl e)) h = (many, h.0, h.1, λ j. sym e j ∷ h.2 j)
   repeats b bs (inr (inr e)) h = (some, h.0, h.1, λ j. sym e j ∷ h.2 j)
 
-  back_late : (q : Option Kind) (b : ℕ) (bs : List ℕ) → Told q b → FromRest (outside now true q) bs → After now (b ∷ bs)
-  back_late (Some k.Bare) b bs e h = late _ (back_outside (Some k.Bare) b bs e h)
-  back_late (Some (k.Lead o)) b bs e h = late _ (back_outside (Some (k.Lead o)) b bs e h)
-  back_late (Some k.Bar) b bs e h = late _ (back_outside (Some k.Bar) b bs e h)
-  back_late (Some k.Open) b bs e h = late _ (back_outside (Some k.Open) b bs e h)
-  back_late (Some k.Close) b bs e h = late _ (back_outside (Some k.Close) b bs e h)
-  back_late (Some k.Start) b bs e h = late _ (back_outside (Some k.Start) b bs e h)
-  back_late (Some k.End) b bs e h = late _ (back_outside (Some k.End) b bs e h)
-  back_late (Some k.Dot) b bs e h = late _ (back_outside (Some k.Dot) b bs e h)
-  back_late (Some k.Repeat) b bs e h = repeats b bs e h
-  back_late (Some k.Backslash) b bs e h = late _ (back_outside (Some k.Backslash) b bs e h)
-  back_late (Some k.Bracket) b bs e h = late _ (back_outside (Some k.Bracket) b bs e h)
-  back_late None b bs e h = absurd h
+  back_behind : (q : Option Kind) (b : ℕ) (bs : List ℕ) → Told q b → FromRest (behind_piece now q) bs → After now (b ∷ bs)
+  back_behind (Some k.Repeat) b bs e h = repeats b bs e h
+  back_behind other b bs e h = late _ (back_outside other b bs e h)
 
   back_first : (q : Option Inside) (b : ℕ) (bs : List ℕ) → ToldIn q b → FromRest (first now b q) bs → First now (b ∷ bs)
   back_first (Some i.Bare) b bs e h = inl (e, h)
@@ -159,8 +149,8 @@ module _ (now : State) where
   back_open false b bs e h = inl (back_first (inside_of b) b bs (told_in b) h)
 
   back : (m : Mode) (b : ℕ) (bs : List ℕ) → FromRest (moved now m b) bs → Rest now m (b ∷ bs)
-  back (Plain true) b bs h = back_late (kind_of b) b bs (told b) h
-  back (Plain false) b bs h = back_outside (kind_of b) b bs (told b) h
+  back Plain b bs h = back_outside (kind_of b) b bs (told b) h
+  back Taken b bs h = back_behind (kind_of b) b bs (told b) h
   back Escape b bs h = back_escape (escaped_of b) b bs (told_after b) h
   back (Owing o) b bs h = let u = if_so (between o.low o.high b) _ bs h in back_owed o.more o.low o.high b bs u.0 u.1
   back ClassOpen b bs h = back_open (eqb b 94) b bs refl h
@@ -172,8 +162,8 @@ module _ (now : State) where
   back (RangeEscape lo) b bs h = back_range lo (escaped_of b) b bs (told_after b) h
 
   over : (m : Mode) → (ends m && eqb now.depth 0) ≡ true → Rest now m []
-  over (Plain true) e = (once, [], eqb-true now.depth 0 e, refl)
-  over (Plain false) e = ([], eqb-true now.depth 0 e, refl)
+  over Plain e = ([], eqb-true now.depth 0 e, refl)
+  over Taken e = (once, [], eqb-true now.depth 0 e, refl)
   over Escape e = let z : ◌≡◌ {A = ℕ} 0 1 = cc in absurd (omega arith)
   over (Owing o) e = let z : ◌≡◌ {A = ℕ} 0 1 = cc in absurd (omega arith)
   over ClassOpen e = let z : ◌≡◌ {A = ℕ} 0 1 = cc in absurd (omega arith)

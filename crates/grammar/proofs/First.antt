@@ -1,8 +1,10 @@
 -- The first item, read from the first character of what is left. Assumes nothing.
 use Rattle.std.proofs.Common.{◌≡◌, ℕ, ◌<◌, ◌≤◌, true, false, eqb, Bor, List, [], ◌∷◌, ◌++◌, length, get_or, drop, Some, None, Option, refl, sym, ap, ◌∙◌, subst, ⊎_elim, length-append, arith}
 use lib.Utf8.{scalar, encode}
+use Rattle.std.specs.Option.{option_map}
 use Rattle.std.proofs.lemmas.Bool.{true≢false, cond-false, ne_eqb, eqb-false, cases_lt}
 use Rattle.std.proofs.lemmas.Bool.Decides.{nat_tests}
+use Rattle.std.proofs.lemmas.Option.{none-some}
 use Rattle.std.proofs.lemmas.Str.{encode_ascii, encode_same, length-encode, len_utf8_bounds, char_from_byte}
 use Rattle.chars.specs.Sets.{digit}
 use Rattle.chars.specs.Marks.{bare}
@@ -21,11 +23,11 @@ use Rattle.chars.specs.declared.sets.Set.TheVariants.{Digits, Words, Spaces}
 use Rattle.grammar.specs.Grammar as g
 use Rattle.grammar.specs.Grammar.{char, wide, marked, any, set, class, once, maybe, many, some, takes, start, end, never, opens, closes, bar}
 use Rattle.grammar.specs.Grammar.{letter, times, item, written, Good}
-use Rattle.grammar.specs.Bytes.{escaped_of}
+use Rattle.grammar.specs.Bytes.{set_of, escaped_of}
 use Rattle.grammar.specs.Classes.{Opens}
 use Rattle.grammar.specs.Items.{IsPiece, IsItem, times_of, Written, Reads}
 use Rattle.grammar.specs.Parse.{timed, escaped_part, part_at, Read, Repeats}
-use Rattle.grammar.proofs.Told.{is_digit, is_set, unlike_bare, mark_low}
+use Rattle.grammar.proofs.Told.{ToldAfter, told_set, is_digit, is_set, letter_set, unlike_bare, mark_low}
 use Rattle.grammar.proofs.Steps.{high_unlike, Bytes, item_bytes, tail}
 use Rattle.grammar.proofs.Parsed.{timed_read, part_read}
 
@@ -168,7 +170,7 @@ abbrev pub Other : ℕ → Type 0
 Other c = (c ≡ 124 → ⊥) × (c ≡ 40 → ⊥) × (c ≡ 41 → ⊥) × (c ≡ 94 → ⊥) × (c ≡ 36 → ⊥) × (c ≡ 46 → ⊥) × (c ≡ 91 → ⊥) × (c ≡ 92 → ⊥)
 
 -- behind a backslash: one that names no set, and is no digit
-abbrev pub Mark : ℕ → Type 0
+abbrev Mark : ℕ → Type 0
 Mark c = (c ≡ 100 → ⊥) × (c ≡ 119 → ⊥) × (c ≡ 115 → ⊥) × (digit c ≡ true → ⊥)
 
 module _ (left : List ℕ) (c : ℕ) (r : Item × Items) (again : Repeats (p.Char c) left r) where
@@ -228,7 +230,7 @@ module _ (bytes left : List ℕ) (c : ℕ) (e : bytes ≡ encode c ++ left) wher
   part_escaped : (m : ℕ) → m < 128 → c ≡ m → (k : Escaped) → escaped_of m ≡ Some k → part_at (92 ∷ bytes) ≡ escaped_part (Some k) m left
   part_escaped m low is k f = ap (λ l. part_at (92 ∷ l)) (ascii bytes left c e m low is) ∙ ap (λ t. escaped_part t m left) f
 
-  pub set_reads : (s : Set) → c ≡ letter s → (r : Item × Items) → Repeats (p.Set s) left r → Reads (92 ∷ bytes) (Some r)
+  set_reads : (s : Set) → c ≡ letter s → (r : Item × Items) → Repeats (p.Set s) left r → Reads (92 ∷ bytes) (Some r)
   set_reads s is r again =
       let part = part_escaped (letter s) (letter_low s) is (q.Set s) (is_set s) in
       escape_reads r (part_takes (92 ∷ bytes) r (timed (set s) left) part (again (set s) refl))
@@ -240,8 +242,17 @@ module _ (bytes left : List ℕ) (c : ℕ) (e : bytes ≡ encode c ++ left) wher
       let part = part_escaped c (digit_low c h) refl q.Digit (is_digit c h) in
       escape_reads r (part_takes (92 ∷ bytes) r (never c, left) part (refl, f))
 
-  pub mark_reads : Mark c → (r : Item × Items) → Repeats (p.Char c) left r → Reads (92 ∷ bytes) (Some r)
+  mark_reads : Mark c → (r : Item × Items) → Repeats (p.Char c) left r → Reads (92 ∷ bytes) (Some r)
   mark_reads n r again = escape_reads r (subst (λ l. Takes (92 ∷ l) r) (sym e) (mark_takes left c r again n))
+
+  pub letter_reads : (s : Set) → Some s ≡ set_of c → (r : Item × Items) → Repeats (p.Set s) left r → Reads (92 ∷ bytes) (Some r)
+  letter_reads s is r again = set_reads s (sym (subst (λ o. ToldAfter (option_map q.Set o) c) (sym is) (told_set c))) r again
+
+  no_set : None ≡ set_of c → (s : Set) → c ≡ letter s → ⊥
+  no_set none s is = none-some s (none ∙ ap set_of is ∙ letter_set s)
+
+  pub sign_reads : None ≡ set_of c → false ≡ digit c → (r : Item × Items) → Repeats (p.Char c) left r → Reads (92 ∷ bytes) (Some r)
+  sign_reads none no_digit r again = mark_reads (no_set none Digits, no_set none Words, no_set none Spaces, λ is. true≢false (sym is ∙ sym no_digit)) r again
 
 -- a backslash alone begins no item
 no_lone : (y : g.Item) (is : List g.Item) → Written (92 ∷ []) (y ∷ is) → ⊥

@@ -10,3 +10,4 @@ pub mod First
 pub mod Judging
 pub mod Text
 pub mod Listed
+pub mod Folded

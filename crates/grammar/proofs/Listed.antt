@@ -1,8 +1,7 @@
 -- The test of a class, read from its bytes, is that of its members. Assumes nothing.
-use Rattle.std.proofs.Common.{◌≡◌, ℕ, ◌+◌, ◌<◌, ◌≤◌, Bool, true, false, ◌||◌, eqb, leb, List, [], ◌∷◌, ◌++◌, length, get_or, drop, sym, refl, ap, ◌∙◌, arith}
+use Rattle.std.proofs.Common.{◌≡◌, ℕ, ◌<◌, ◌≤◌, Bool, true, false, ◌||◌, eqb, leb, List, [], ◌∷◌, ◌++◌, drop, sym, refl, ap, ◌∙◌, arith}
 use lib.Utf8.{encode}
 use mathlib.Core.Bool as bool
-use Rattle.std.proofs.lemmas.List.{at_drop_more, at_drop_all}
 use Rattle.std.proofs.lemmas.Bool.{cond-false, eqb-true, ne_eqb, le-leb, and_from}
 use Rattle.std.proofs.lemmas.Bool.Decides.{nat_tests}
 use Rattle.std.proofs.lemmas.Str.{encode_ascii}
@@ -14,19 +13,11 @@ use Rattle.grammar.specs.declared.class.Spot.TheVariants.{Fresh, Last, Range}
 use Rattle.chars.specs.Sets.{in_set}
 use Rattle.grammar.specs.Grammar as g
 use Rattle.grammar.specs.Grammar.{Sign, plain, escaped, Member, one, range, every, letter, sign, value, member, members, caret, GoodSign, GoodMember, GoodMembers}
-use Rattle.grammar.specs.Classes.{in_member, in_members, in_class, Passed, unless, after_escape, passes, listed_on, listed, taken, complemented, members_of, Opens, Tests}
+use Rattle.grammar.specs.Classes.{in_member, in_members, in_class, unless, after_escape, listed_on, listed, taken, complemented, members_of, Opens, Tests}
 use Rattle.grammar.proofs.Told.{is_mark, is_set, unlike, mark_low, unmarked_low}
 use Rattle.grammar.specs.Items.{shut_of}
 use Rattle.grammar.proofs.Steps.{member_on, members_shut, class_shut}
 use Rattle.grammar.proofs.Parsed.{NoDash, no_dash, head_no_caret}
-
--- one byte more of the members
-module _ (c : ℕ) (bytes : List ℕ) (spot : Spot) (i : ℕ) (lt : i < length bytes) (inv : listed c spot (drop i bytes) ≡ listed c Fresh bytes) where
-  pub passing : (p : Passed) → passes c spot (get_or bytes i 0) ≡ p → listed_on p (λ after. listed c after (drop (i + 1) bytes)) ≡ listed c Fresh bytes
-  passing p h = ap (λ q. listed_on q (λ after. listed c after (drop (i + 1) bytes))) (sym h) ∙ sym (at_drop_more (listed c spot) bytes i 0 lt) ∙ inv
-
-pub passed_all : (c : ℕ) (bytes : List ℕ) (spot : Spot) (i : ℕ) → length bytes ≤ i → listed c spot (drop i bytes) ≡ listed c Fresh bytes → false ≡ listed c Fresh bytes
-passed_all c bytes spot i le inv = sym (at_drop_all (listed c spot) bytes i le) ∙ inv
 
 unless_listed : (t : Bool) (s : Spot) (f : Spot → Bool) → listed_on (unless t s) f ≡ (t || f s)
 unless_listed true s f = refl

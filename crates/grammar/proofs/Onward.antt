@@ -13,12 +13,12 @@ use Rattle.grammar.specs.declared.bytes.Kind.TheVariants as k
 use Rattle.grammar.specs.declared.bytes.Inside.{Inside}
 use Rattle.grammar.specs.declared.bytes.Inside.TheVariants as i
 use Rattle.grammar.specs.declared.reader.Mode.{Mode}
-use Rattle.grammar.specs.declared.reader.Mode.TheVariants.{Plain, Escape, Owing, ClassOpen, ClassFirst, Class, ClassLast, ClassEscape, Range, RangeEscape}
+use Rattle.grammar.specs.declared.reader.Mode.TheVariants.{Plain, Taken, Escape, Owing, ClassOpen, ClassFirst, Class, ClassLast, ClassEscape, Range, RangeEscape}
 use Rattle.grammar.specs.declared.reader.State.{State}
 use Rattle.grammar.specs.Bytes.{led_by, kind_of, inside_of, escaped_of}
 use Rattle.grammar.specs.Grammar.{plain, escaped, Member, one, range, every, Piece, char, wide, marked, any, set, class, Times, once, maybe, many, some, Item, takes, start, end, never, opens, closes, bar}
 use Rattle.grammar.specs.Grammar.{member, members, caret, piece, times, written, GoodMember, GoodMembers, GoodPiece, Good}
-use Rattle.grammar.specs.Reader.{outside, first, within, last, upper, escape, class_escape, range_escape, owed, moved, next, ends, done}
+use Rattle.grammar.specs.Reader.{outside, behind_piece, first, within, last, upper, escape, class_escape, range_escape, owed, moved, next, ends, done}
 use Rattle.grammar.proofs.Rests.{After, Members, UpperEscaped, Upper, Last, EscapedIn, First, Opened, Escaping, Rest, Rests, FromRest, Sound}
 use Rattle.grammar.proofs.Told.{mark_low, unmarked_low, is_bare, in_bare, is_mark, is_digit, is_set, is_lead}
 
@@ -31,8 +31,8 @@ module _ (now : State) where
   NextAt m (b ∷ bs) = FromRest (moved now m b) bs
 
   -- where the kind of the byte is known
-  by_kind : (t : Bool) (b : ℕ) (bs : List ℕ) (q : Option Kind) → kind_of b ≡ q → FromRest (outside now t q) bs → FromRest (outside now t (kind_of b)) bs
-  by_kind t b bs q e h = subst (λ p. FromRest (outside now t p) bs) (sym e) h
+  by_kind : (b : ℕ) (bs : List ℕ) (q : Option Kind) → kind_of b ≡ q → FromRest (outside now q) bs → FromRest (outside now (kind_of b)) bs
+  by_kind b bs q e h = subst (λ p. FromRest (outside now p) bs) (sym e) h
 
   head_first : (m : Member) (cs : List ℕ) → GoodMember m → Members now cs → First now (member m cs)
   head_first (one (plain c)) cs a h = inl (a, inl h)
@@ -43,41 +43,50 @@ module _ (now : State) where
   head_first (range (escaped a) (escaped z)) cs h r = inr (refl, inl (h.0, inr (refl, inr (refl, (h.1, h.2, r)))))
   head_first (every s) cs a h = inr (refl, inr (s, refl, h))
 
-  lead_on : (t : Bool) (o : Option Owed) (bs : List ℕ) → Following (After now) o bs → FromRest (outside now t (led_by o)) bs
-  lead_on t None bs h = absurd h
-  lead_on t (Some o) bs h = h
+  lead_on : (o : Option Owed) (bs : List ℕ) → Following (After now) o bs → FromRest (outside now (led_by o)) bs
+  lead_on None bs h = absurd h
+  lead_on (Some o) bs h = h
 
-  wide_on : (t : Bool) (bs : List ℕ) → Begun (After now) bs → NextAt (Plain t) bs
-  wide_on t [] h = absurd h
-  wide_on t (b ∷ bs) h = by_kind t b bs (led_by (lead_of b)) (is_lead b h.0) (lead_on t (lead_of b) bs h.1)
+  wide_on : (bs : List ℕ) → Begun (After now) bs → NextAt Plain bs
+  wide_on [] h = absurd h
+  wide_on (b ∷ bs) h = by_kind b bs (led_by (lead_of b)) (is_lead b h.0) (lead_on (lead_of b) bs h.1)
 
   opened : (t : Bool) (cs : List ℕ) → First now cs → Opened now (caret t cs)
   opened true cs h = inr (cs, h, refl)
   opened false cs h = inl h
 
-  piece_on : (t : Bool) (p : Piece) (u : Times) (is : List Item) → GoodPiece p → Good now.groups now.depth is → NextAt (Plain t) (piece p (times u (written is)))
-  piece_on t (char c) u is a h = by_kind t c (times u (written is)) (Some k.Bare) (is_bare c a) (u, is, h, refl)
-  piece_on t (wide c) u is a h = wide_on t (encode c ++ times u (written is)) (begun (After now) c a.0 a.1 (times u (written is)) (u, is, h, refl))
-  piece_on t (marked c) u is a h = inl (a, (u, is, h, refl))
-  piece_on t any u is a h = (u, is, h, refl)
-  piece_on t (set s) u is a h = inr (inr (s, refl, (u, is, h, refl)))
-  piece_on t (class not m ms) u is a h =
+  piece_on : (p : Piece) (u : Times) (is : List Item) → GoodPiece p → Good now.groups now.depth is → NextAt Plain (piece p (times u (written is)))
+  piece_on (char c) u is a h = by_kind c (times u (written is)) (Some k.Bare) (is_bare c a) (u, is, h, refl)
+  piece_on (wide c) u is a h = wide_on (encode c ++ times u (written is)) (begun (After now) c a.0 a.1 (times u (written is)) (u, is, h, refl))
+  piece_on (marked c) u is a h = inl (a, (u, is, h, refl))
+  piece_on any u is a h = (u, is, h, refl)
+  piece_on (set s) u is a h = inr (inr (s, refl, (u, is, h, refl)))
+  piece_on (class not m ms) u is a h =
       opened not (member m (members ms (93 ∷ times u (written is)))) (head_first m (members ms (93 ∷ times u (written is))) a.0 (ms, u, is, a.1, h, refl))
 
   -- the depth does not pass the number of groups
-  items_on : now.depth ≤ now.groups → (t : Bool) (is : List Item) → Good now.groups now.depth is → NextAt (Plain t) (written is)
-  items_on le t [] h = eq-eqb now.depth 0 h
-  items_on le t (takes p u ∷ is) h = piece_on t p u is h.0 h.1
-  items_on le t (start ∷ is) h = (is, h, refl)
-  items_on le t (end ∷ is) h = (is, h, refl)
-  items_on le t (never n ∷ is) h = inr (inl (h.0, (is, h.1, refl)))
-  items_on le t (opens ∷ is) h =
+  items_on : now.depth ≤ now.groups → (is : List Item) → Good now.groups now.depth is → NextAt Plain (written is)
+  items_on le [] h = eq-eqb now.depth 0 h
+  items_on le (takes p u ∷ is) h = piece_on p u is h.0 h.1
+  items_on le (start ∷ is) h = (is, h, refl)
+  items_on le (end ∷ is) h = (is, h, refl)
+  items_on le (never n ∷ is) h = inr (inl (h.0, (is, h.1, refl)))
+  items_on le (opens ∷ is) h =
       so (ltb now.groups 15 && ltb now.depth 15) _ (written is) (and_from (ltb now.groups 15) (ltb now.depth 15) (lt-ltb now.groups 15 h.0) (lt-ltb now.depth 15 (omega (arith, h.0)))) (is, h.1, refl)
-  items_on le t (closes ∷ is) h = so (ltb 0 now.depth) _ (written is) (lt-ltb 0 now.depth h.0) (is, h.1, refl)
-  items_on le t (bar ∷ is) h = so (eqb now.depth 0) _ (written is) (eq-eqb now.depth 0 h.0) (is, h.1, refl)
+  items_on le (closes ∷ is) h = so (ltb 0 now.depth) _ (written is) (lt-ltb 0 now.depth h.0) (is, h.1, refl)
+  items_on le (bar ∷ is) h = so (eqb now.depth 0) _ (written is) (eq-eqb now.depth 0 h.0) (is, h.1, refl)
 
-  after_on : now.depth ≤ now.groups → (u : Times) (is : List Item) → Good now.groups now.depth is → NextAt (Plain true) (times u (written is))
-  after_on le once is h = items_on le true is h
+  -- what may stand between items may stand behind a piece
+  later : (q : Option Kind) (bs : List ℕ) → FromRest (outside now q) bs → FromRest (behind_piece now q) bs
+  later (Some k.Repeat) bs h = absurd h
+  later other bs h = h
+
+  later_on : (bs : List ℕ) → NextAt Plain bs → NextAt Taken bs
+  later_on [] h = h
+  later_on (b ∷ bs) h = later (kind_of b) bs h
+
+  after_on : now.depth ≤ now.groups → (u : Times) (is : List Item) → Good now.groups now.depth is → NextAt Taken (times u (written is))
+  after_on le once is h = later_on (written is) (items_on le is h)
   after_on le maybe is h = (is, h, refl)
   after_on le many is h = (is, h, refl)
   after_on le some is h = (is, h, refl)
@@ -178,8 +187,8 @@ module _ (now : State) where
   open_on bs (inr h) = subst (NextAt ClassOpen) h.2 h.1
 
   forth : now.depth ≤ now.groups → (m : Mode) (bs : List ℕ) → Rest now m bs → NextAt m bs
-  forth le (Plain true) bs h = subst (NextAt (Plain true)) h.3 (after_on le h.0 h.1 h.2)
-  forth le (Plain false) bs h = subst (NextAt (Plain false)) h.2 (items_on le false h.0 h.1)
+  forth le Plain bs h = subst (NextAt Plain) h.2 (items_on le h.0 h.1)
+  forth le Taken bs h = subst (NextAt Taken) h.3 (after_on le h.0 h.1 h.2)
   forth le Escape bs h = escape_on bs h
   forth le (Owing o) bs h = owed_on o bs h
   forth le ClassOpen bs h = open_on bs h

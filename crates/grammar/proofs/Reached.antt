@@ -11,12 +11,12 @@ use Rattle.grammar.specs.declared.bytes.Inside.TheVariants as i
 use Rattle.grammar.specs.declared.bytes.Escaped.{Escaped}
 use Rattle.grammar.specs.declared.bytes.Escaped.TheVariants as e
 use Rattle.grammar.specs.declared.reader.Mode.{Mode}
-use Rattle.grammar.specs.declared.reader.Mode.TheVariants.{Plain, Escape, Owing, ClassOpen, ClassFirst, Class, ClassLast, ClassEscape, Range, RangeEscape}
+use Rattle.grammar.specs.declared.reader.Mode.TheVariants.{Plain, Taken, Escape, Owing, ClassOpen, ClassFirst, Class, ClassLast, ClassEscape, Range, RangeEscape}
 use Rattle.grammar.specs.declared.reader.State.{State}
 use Rattle.grammar.specs.Bytes.{kind_of, inside_of, escaped_of}
 use Rattle.grammar.specs.Grammar.{once, Item, closes}
 use Rattle.grammar.specs.Grammar.{written, Good}
-use Rattle.grammar.specs.Reader.{outside, first, within, last, upper, escape, class_escape, range_escape, owed, moved, next, to}
+use Rattle.grammar.specs.Reader.{outside, behind_piece, first, within, last, upper, escape, class_escape, range_escape, owed, moved, next, to}
 use Rattle.grammar.proofs.Rests.{After, Members, First, Rest, Rests, SoundMode, Sound}
 use Rattle.grammar.proofs.Told.{Told, told}
 
@@ -49,8 +49,8 @@ module _ (now : State) where
   first_end = inl (refl, inl members_end)
 
   end_of : (m : Mode) → SoundMode m → (t : List ℕ) × Rest now m t
-  end_of (Plain true) h = (written (shut now.depth), after_end)
-  end_of (Plain false) h = (written (shut now.depth), (shut now.depth, good_shut now.groups now.depth, refl))
+  end_of Plain h = (written (shut now.depth), (shut now.depth, good_shut now.groups now.depth, refl))
+  end_of Taken h = (written (shut now.depth), after_end)
   end_of Escape h = (46 ∷ written (shut now.depth), inl (refl, after_end))
   end_of (Owing o) h = owes_end (After now) (written (shut now.depth), after_end) o.more o.low o.high h
   end_of ClassOpen h = (97 ∷ 93 ∷ written (shut now.depth), inl first_end)
@@ -63,19 +63,23 @@ module _ (now : State) where
 
 -- ===== the states that are reached
 module _ (now : State) (h : (now.depth ≤ now.groups) × (now.groups ≤ 15)) where
-  kept_outside : (t : Bool) (q : Option Kind) (b : ℕ) → Told q b → Kept Sound (outside now t q)
-  kept_outside t (Some k.Bare) b e = (h, tt)
-  kept_outside t (Some (k.Lead o)) b e = (h, (e).1)
-  kept_outside t (Some k.Bar) b e = kept_if (eqb now.depth 0) _ (λ _. (h, tt))
-  kept_outside t (Some k.Open) b e = kept_if (ltb now.groups 15 && ltb now.depth 15) _ (λ u. ((omega arith, omega (arith, ltb-true now.groups 15 (and_parts (ltb now.groups 15) (ltb now.depth 15) u).0)), tt))
-  kept_outside t (Some k.Close) b e = kept_if (ltb 0 now.depth) _ (λ u. ((omega arith, omega arith), tt))
-  kept_outside t (Some k.Start) b e = (h, tt)
-  kept_outside t (Some k.End) b e = (h, tt)
-  kept_outside t (Some k.Dot) b e = (h, tt)
-  kept_outside t (Some k.Repeat) b e = kept_if t _ (λ _. (h, tt))
-  kept_outside t (Some k.Backslash) b e = (h, tt)
-  kept_outside t (Some k.Bracket) b e = (h, tt)
-  kept_outside t None b e = tt
+  kept_outside : (q : Option Kind) (b : ℕ) → Told q b → Kept Sound (outside now q)
+  kept_outside (Some k.Bare) b e = (h, tt)
+  kept_outside (Some (k.Lead o)) b e = (h, (e).1)
+  kept_outside (Some k.Bar) b e = kept_if (eqb now.depth 0) _ (λ _. (h, tt))
+  kept_outside (Some k.Open) b e = kept_if (ltb now.groups 15 && ltb now.depth 15) _ (λ u. ((omega arith, omega (arith, ltb-true now.groups 15 (and_parts (ltb now.groups 15) (ltb now.depth 15) u).0)), tt))
+  kept_outside (Some k.Close) b e = kept_if (ltb 0 now.depth) _ (λ u. ((omega arith, omega arith), tt))
+  kept_outside (Some k.Start) b e = (h, tt)
+  kept_outside (Some k.End) b e = (h, tt)
+  kept_outside (Some k.Dot) b e = (h, tt)
+  kept_outside (Some k.Repeat) b e = tt
+  kept_outside (Some k.Backslash) b e = (h, tt)
+  kept_outside (Some k.Bracket) b e = (h, tt)
+  kept_outside None b e = tt
+
+  kept_behind : (q : Option Kind) (b : ℕ) → Told q b → Kept Sound (behind_piece now q)
+  kept_behind (Some k.Repeat) b e = (h, tt)
+  kept_behind other b e = kept_outside other b e
 
   kept_first : (q : Option Inside) (b : ℕ) → Kept Sound (first now b q)
   kept_first (Some i.Bare) b = (h, tt)
@@ -132,7 +136,8 @@ module _ (now : State) (h : (now.depth ≤ now.groups) × (now.groups ≤ 15)) w
   kept_open false b = kept_first (inside_of b) b
 
   kept : (m : Mode) (b : ℕ) → Kept Sound (moved now m b)
-  kept (Plain t) b = kept_outside t (kind_of b) b (told b)
+  kept Plain b = kept_outside (kind_of b) b (told b)
+  kept Taken b = kept_behind (kind_of b) b (told b)
   kept Escape b = kept_escape (escaped_of b)
   kept (Owing o) b = kept_if (between o.low o.high b) _ (λ _. kept_owed o.more)
   kept ClassOpen b = kept_open (eqb b 94) b

@@ -1,12 +1,12 @@
 -- What may follow in each state of the reader. Assumes nothing.
-use Rattle.std.proofs.Common.{◌≡◌, ℕ, ◌<◌, ◌≤◌, true, false, ◌⊎◌, List, [], ◌∷◌, Option}
+use Rattle.std.proofs.Common.{◌≡◌, ℕ, ◌<◌, ◌≤◌, true, ◌⊎◌, List, [], ◌∷◌, Option}
 use Rattle.chars.specs.Sets.{digit}
 use Rattle.chars.specs.Marks.{mark, unmarked}
 use Rattle.chars.proofs.Wide.{Owes}
 use Rattle.matcher.proofs.Longest.{From}
 use Rattle.chars.specs.declared.sets.Set.{Set}
 use Rattle.grammar.specs.declared.reader.Mode.{Mode}
-use Rattle.grammar.specs.declared.reader.Mode.TheVariants.{Plain, Escape, Owing, ClassOpen, ClassFirst, Class, ClassLast, ClassEscape, Range, RangeEscape}
+use Rattle.grammar.specs.declared.reader.Mode.TheVariants.{Plain, Taken, Escape, Owing, ClassOpen, ClassFirst, Class, ClassLast, ClassEscape, Range, RangeEscape}
 use Rattle.grammar.specs.declared.reader.State.{State}
 use Rattle.grammar.specs.Grammar.{Member, Times, Item, letter, member, members, times, written, GoodMember, GoodMembers, Good, LegalFrom}
 
@@ -55,8 +55,8 @@ module _ (now : State) where
   Escaping (b ∷ cs) = ((mark b ≡ true) × After cs) ⊎ (((digit b ≡ true) × LegalFrom now.groups now.depth cs) ⊎ ((s : Set) × (letter s ≡ b) × After cs))
 
   abbrev pub Rest : Mode → List ℕ → Type 0
-  Rest (Plain true) bs = After bs
-  Rest (Plain false) bs = LegalFrom now.groups now.depth bs
+  Rest Plain bs = LegalFrom now.groups now.depth bs
+  Rest Taken bs = After bs
   Rest Escape bs = Escaping bs
   Rest (Owing o) bs = Owes o.more o.low o.high After bs
   Rest ClassOpen bs = Opened bs
@@ -75,7 +75,8 @@ FromRest o bs = From Rests o bs
 
 -- what holds of the states that are reached
 abbrev pub SoundMode : Mode → Type 0
-SoundMode (Plain t) = Unit {0}
+SoundMode Plain = Unit {0}
+SoundMode Taken = Unit {0}
 SoundMode Escape = Unit {0}
 SoundMode (Owing o) = o.low ≤ o.high
 SoundMode ClassOpen = Unit {0}

@@ -76,7 +76,7 @@ ToldAfter (Some e.Digit) b = digit b ≡ true
 ToldAfter (Some (e.Set s)) b = letter s ≡ b
 ToldAfter None b = Unit {0}
 
-told_set : (b : ℕ) → ToldAfter (option_map e.Set (set_of b)) b
+pub told_set : (b : ℕ) → ToldAfter (option_map e.Set (set_of b)) b
 told_set b =
     cond_both (eqb b 100) (Some Digits) _ (λ q. ToldAfter (option_map e.Set q) b) (λ e. sym (eqb-true b 100 e))
     (λ _. cond_both (eqb b 119) (Some Words) _ (λ q. ToldAfter (option_map e.Set q) b) (λ e. sym (eqb-true b 119 e))
@@ -113,6 +113,11 @@ pub is_set : (s : Set) → escaped_of (letter s) ≡ Some (e.Set s)
 is_set Digits = refl
 is_set Words = refl
 is_set Spaces = refl
+
+pub letter_set : (s : Set) → set_of (letter s) ≡ Some s
+letter_set Digits = refl
+letter_set Words = refl
+letter_set Spaces = refl
 
 pub is_lead : (b : ℕ) → 128 ≤ b → kind_of b ≡ leads b
 is_lead b h =

@@ -11,7 +11,7 @@ use Rattle.grammar.specs.declared.bytes.Inside.TheVariants as i
 use Rattle.grammar.specs.declared.bytes.Escaped.{Escaped}
 use Rattle.grammar.specs.declared.bytes.Escaped.TheVariants as e
 use Rattle.grammar.specs.declared.reader.Mode.{Mode}
-use Rattle.grammar.specs.declared.reader.Mode.TheVariants.{Plain, Escape, Owing, ClassOpen, ClassFirst, Class, ClassLast, ClassEscape, Range, RangeEscape}
+use Rattle.grammar.specs.declared.reader.Mode.TheVariants.{Plain, Taken, Escape, Owing, ClassOpen, ClassFirst, Class, ClassLast, ClassEscape, Range, RangeEscape}
 use Rattle.grammar.specs.declared.reader.State.{State}
 use Rattle.grammar.specs.Bytes.{kind_of, inside_of, escaped_of}
 
@@ -24,25 +24,30 @@ abbrev pub to : State → Mode → Option State
 to s m = at s.groups s.depth m
 
 abbrev pub opened : State → Option State
-opened s = cond (nat_lt s.groups 15 && nat_lt s.depth 15) (at (s.groups + 1) (s.depth + 1) (Plain false)) None
+opened s = cond (nat_lt s.groups 15 && nat_lt s.depth 15) (at (s.groups + 1) (s.depth + 1) Plain) None
 
 abbrev pub closed : State → Option State
-closed s = cond (nat_lt 0 s.depth) (at s.groups (s.depth - 1) (Plain false)) None
+closed s = cond (nat_lt 0 s.depth) (at s.groups (s.depth - 1) Plain) None
 
--- between items; t: a repeat may follow. The depth never passes the number of groups
-abbrev pub outside : State → Bool → Option Kind → Option State
-outside s t (Some k.Bare) = to s (Plain true)
-outside s t (Some (k.Lead o)) = to s (Owing o)
-outside s t (Some k.Bar) = cond (s.depth == 0) (to s (Plain false)) None
-outside s t (Some k.Open) = opened s
-outside s t (Some k.Close) = closed s
-outside s t (Some k.Start) = to s (Plain false)
-outside s t (Some k.End) = to s (Plain false)
-outside s t (Some k.Dot) = to s (Plain true)
-outside s t (Some k.Repeat) = cond t (to s (Plain false)) None
-outside s t (Some k.Backslash) = to s Escape
-outside s t (Some k.Bracket) = to s ClassOpen
-outside s t None = None
+-- between items: a repeat has nothing to repeat. The depth never passes the number of groups
+abbrev pub outside : State → Option Kind → Option State
+outside s (Some k.Bare) = to s Taken
+outside s (Some (k.Lead o)) = to s (Owing o)
+outside s (Some k.Bar) = cond (s.depth == 0) (to s Plain) None
+outside s (Some k.Open) = opened s
+outside s (Some k.Close) = closed s
+outside s (Some k.Start) = to s Plain
+outside s (Some k.End) = to s Plain
+outside s (Some k.Dot) = to s Taken
+outside s (Some k.Repeat) = None
+outside s (Some k.Backslash) = to s Escape
+outside s (Some k.Bracket) = to s ClassOpen
+outside s None = None
+
+-- behind a piece: its repeat, or what stands between items
+abbrev pub behind_piece : State → Option Kind → Option State
+behind_piece s (Some k.Repeat) = to s Plain
+behind_piece s other = outside s other
 
 -- the first member of a class
 abbrev pub first : State → ℕ → Option Inside → Option State
@@ -56,7 +61,7 @@ first s b None = None
 abbrev pub within : State → ℕ → Option Inside → Option State
 within s b (Some i.Bare) = to s (ClassLast b)
 within s b (Some i.Backslash) = to s ClassEscape
-within s b (Some i.Shut) = to s (Plain true)
+within s b (Some i.Shut) = to s Taken
 within s b (Some i.Dash) = None
 within s b None = None
 
@@ -64,7 +69,7 @@ within s b None = None
 abbrev pub last : State → ℕ → ℕ → Option Inside → Option State
 last s lo b (Some i.Bare) = to s (ClassLast b)
 last s lo b (Some i.Backslash) = to s ClassEscape
-last s lo b (Some i.Shut) = to s (Plain true)
+last s lo b (Some i.Shut) = to s Taken
 last s lo b (Some i.Dash) = cond (nat_lt lo 127) (to s (Range lo)) None
 last s lo b None = None
 
@@ -78,9 +83,9 @@ upper s lo b None = None
 
 -- after a backslash: outside of a class, in it, and at the upper end of a range
 abbrev pub escape : State → Option Escaped → Option State
-escape s (Some e.Mark) = to s (Plain true)
-escape s (Some e.Digit) = to s (Plain false)
-escape s (Some (e.Set x)) = to s (Plain true)
+escape s (Some e.Mark) = to s Taken
+escape s (Some e.Digit) = to s Plain
+escape s (Some (e.Set x)) = to s Taken
 escape s None = None
 
 abbrev pub class_escape : State → ℕ → Option Escaped → Option State
@@ -97,13 +102,14 @@ range_escape s lo b None = None
 
 -- so many bytes are owed yet
 abbrev pub owed : ℕ → Mode
-owed n = unwrap_or (option_map Owing (rest_of n)) (Plain true)
+owed n = unwrap_or (option_map Owing (rest_of n)) Taken
 
 abbrev pub owing : State → Owed → ℕ → Option State
 owing s o b = cond (goes_on o b) (to s (owed o.more)) None
 
 abbrev pub moved : State → Mode → ℕ → Option State
-moved s (Plain t) b = outside s t (kind_of b)
+moved s Plain b = outside s (kind_of b)
+moved s Taken b = behind_piece s (kind_of b)
 moved s Escape b = escape s (escaped_of b)
 moved s (Owing o) b = owing s o b
 moved s ClassOpen b = cond (b == 94) (to s ClassFirst) (first s b (inside_of b))
@@ -119,7 +125,8 @@ abbrev pub next : State → ℕ → Option State
 next s b = moved s s.mode b
 
 abbrev pub ends : Mode → Bool
-ends (Plain t) = true
+ends Plain = true
+ends Taken = true
 ends Escape = false
 ends (Owing o) = false
 ends ClassOpen = false
@@ -135,7 +142,7 @@ abbrev pub done : State → Bool
 done s = ends s.mode && s.depth == 0
 
 abbrev pub begin : State
-begin = record { groups = 0; depth = 0; mode = Plain false }
+begin = record { groups = 0; depth = 0; mode = Plain }
 
 abbrev pub refusal : List ℕ → Option ℕ
 refusal e = refuses next done begin e

@@ -76,13 +76,13 @@ pub fn inside_of(b: u8) -> Option<Inside>
 }
 
 // The set that the letter names.
-fn set_of(b: u8) -> Option<Set>
-    ensures { result ≡ set_of_spec b }
+pub(crate) fn set_of(letter: char) -> Option<Set>
+    ensures { result ≡ set_of_spec letter }
 {
-    match b {
-        b'd' => Some(Set::Digits),
-        b'w' => Some(Set::Words),
-        b's' => Some(Set::Spaces),
+    match letter {
+        'd' => Some(Set::Digits),
+        'w' => Some(Set::Words),
+        's' => Some(Set::Spaces),
         _ => None,
     }
 }
@@ -97,5 +97,5 @@ pub fn escaped_of(b: u8) -> Option<Escaped>
     if Set::Digits.takes(b) {
         return Some(Escaped::Digit);
     }
-    set_of(b).map(Escaped::Set)
+    set_of(char::from(b)).map(Escaped::Set)
 }

@@ -81,8 +81,7 @@ fn pass(c: u8, spot: Spot, b: u8) -> Passed
         Spot::Last(low) if b == b'-' => Passed::Continue(Spot::Range(low)),
         Spot::Last(_) => fresh(c, b),
         Spot::Range(low) if b == b'\\' => Passed::Continue(Spot::RangeEscape(low)),
-        Spot::Range(low) => up_to(c, low, b),
-        Spot::RangeEscape(low) => up_to(c, low, b),
+        Spot::Range(low) | Spot::RangeEscape(low) => up_to(c, low, b),
     }
 }
 
@@ -90,14 +89,11 @@ fn pass(c: u8, spot: Spot, b: u8) -> Passed
 fn lists(members: &[u8], c: u8) -> bool
     ensures { result ≡ listed c Fresh members.now }
 {
-    let mut spot = Spot::Fresh;
-    for b in members {
-        match pass(c, spot, *b) {
-            Passed::Break(taken) => return taken,
-            Passed::Continue(next) => spot = next,
-        }
-    }
-    false
+    members
+        .iter()
+        .try_fold(Spot::Fresh, |spot, b| pass(c, spot, *b))
+        .break_value()
+        .unwrap_or(false)
 }
 
 // What follows the class: it ends at the first `]` that no backslash precedes.

@@ -4,6 +4,7 @@ ghost use Rattle.grammar.specs.Parse.{Repeats};
 ghost use Rattle.std.specs.Iterator.{at_most};
 ghost use Rattle.grammar.specs.Items.{Reads, Yields};
 
+use crate::bytes::set_of;
 use crate::class::Class;
 use chars::sets::Set;
 
@@ -75,12 +76,11 @@ fn escaped(rest: &str) -> Option<(Item<'_>, Items<'_>)>
     if c.is_ascii_digit() {
         return Some((Item::Never, Items { rest }));
     }
-    Some(match c {
-        'd' => repeated(Piece::Set(Set::Digits), rest),
-        'w' => repeated(Piece::Set(Set::Words), rest),
-        's' => repeated(Piece::Set(Set::Spaces), rest),
-        _ => repeated(Piece::Char(c), rest),
-    })
+    let piece = match set_of(c) {
+        Some(set) => Piece::Set(set),
+        None => Piece::Char(c),
+    };
+    Some(repeated(piece, rest))
 }
 
 impl<'a> Items<'a> {

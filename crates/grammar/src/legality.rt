@@ -20,7 +20,7 @@ pub fn check(expression: &[u8]) -> Result<(), Illegal>
     let start = State {
         groups: 0,
         depth: 0,
-        mode: Mode::Plain(false),
+        mode: Mode::Plain,
     };
     reading::check(start, expression)
 }

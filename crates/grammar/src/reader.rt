@@ -9,8 +9,10 @@ use matcher::reading::Reader;
 
 #[derive(Clone, Copy, Debug, PartialEq, Eq)]
 pub enum Mode {
-    // between items; true: a repeat may follow
-    Plain(bool),
+    // between items, where no repeat may follow
+    Plain,
+    // behind a piece, which a repeat may follow
+    Taken,
     // after a backslash
     Escape,
     // in a character that owes bytes
@@ -37,7 +39,7 @@ pub struct State {
 }
 
 impl State {
-    ghost use Rattle.grammar.specs.Reader.{to, opened, closed, outside, first, within, last, upper, escape, class_escape, range_escape, owing};
+    ghost use Rattle.grammar.specs.Reader.{to, opened, closed, outside, behind_piece, first, within, last, upper, escape, class_escape, range_escape, owing};
 
     // The same pairs, in another mode.
     fn to(self, mode: Mode) -> Option<State>
@@ -54,7 +56,7 @@ impl State {
         more.then(|| State {
             groups: self.groups + 1,
             depth: self.depth + 1,
-            mode: Mode::Plain(false),
+            mode: Mode::Plain,
         })
     }
 
@@ -65,26 +67,35 @@ impl State {
         let depth = self.depth.checked_sub(1)?;
         Some(State {
             depth,
-            mode: Mode::Plain(false),
+            mode: Mode::Plain,
             ..self
         })
     }
 
-    // Between items.
-    fn outside(self, takes: bool, b: u8) -> Option<State>
-        ensures { result ≡ outside self takes (kind_of b) }
+    // Between items: a repeat has nothing to repeat.
+    fn outside(self, b: u8) -> Option<State>
+        ensures { result ≡ outside self (kind_of b) }
     {
         match kind_of(b)? {
-            Kind::Bare | Kind::Dot => self.to(Mode::Plain(true)),
+            Kind::Bare | Kind::Dot => self.to(Mode::Taken),
             Kind::Lead(owed) => self.to(Mode::Owing(owed)),
-            Kind::Bar if self.depth == 0 => self.to(Mode::Plain(false)),
+            Kind::Bar if self.depth == 0 => self.to(Mode::Plain),
             Kind::Open => self.opened(),
             Kind::Close => self.closed(),
-            Kind::Start | Kind::End => self.to(Mode::Plain(false)),
-            Kind::Repeat if takes => self.to(Mode::Plain(false)),
+            Kind::Start | Kind::End => self.to(Mode::Plain),
             Kind::Backslash => self.to(Mode::Escape),
             Kind::Bracket => self.to(Mode::ClassOpen),
             Kind::Bar | Kind::Repeat => None,
+        }
+    }
+
+    // Behind a piece: its repeat, or what stands between items.
+    fn behind_piece(self, b: u8) -> Option<State>
+        ensures { result ≡ behind_piece self (kind_of b) }
+    {
+        match kind_of(b)? {
+            Kind::Repeat => self.to(Mode::Plain),
+            _ => self.outside(b),
         }
     }
 
@@ -105,7 +116,7 @@ impl State {
         match inside_of(b)? {
             Inside::Bare => self.to(Mode::ClassLast(b)),
             Inside::Backslash => self.to(Mode::ClassEscape),
-            Inside::Shut => self.to(Mode::Plain(true)),
+            Inside::Shut => self.to(Mode::Taken),
             Inside::Dash => None,
         }
     }
@@ -136,8 +147,8 @@ impl State {
         ensures { result ≡ escape self (escaped_of b) }
     {
         match escaped_of(b)? {
-            Escaped::Mark | Escaped::Set(_) => self.to(Mode::Plain(true)),
-            Escaped::Digit => self.to(Mode::Plain(false)),
+            Escaped::Mark | Escaped::Set(_) => self.to(Mode::Taken),
+            Escaped::Digit => self.to(Mode::Plain),
         }
     }
 
@@ -169,7 +180,7 @@ impl State {
         if !owed.takes(b) {
             return None;
         }
-        self.to(owed.rest().map_or(Mode::Plain(true), Mode::Owing))
+        self.to(owed.rest().map_or(Mode::Taken, Mode::Owing))
     }
 }
 
@@ -180,7 +191,8 @@ impl Reader for State {
 
     fn step(self, b: u8) -> Option<State> {
         match self.mode {
-            Mode::Plain(takes) => self.outside(takes, b),
+            Mode::Plain => self.outside(b),
+            Mode::Taken => self.behind_piece(b),
             Mode::Escape => self.escape(b),
             Mode::Owing(owed) => self.owing(owed, b),
             Mode::ClassOpen if b == b'^' => self.to(Mode::ClassFirst),
@@ -194,6 +206,6 @@ impl Reader for State {
     }
 
     fn may_end(self) -> bool {
-        matches!(self.mode, Mode::Plain(_)) && self.depth == 0
+        matches!(self.mode, Mode::Plain | Mode::Taken) && self.depth == 0
     }
 }

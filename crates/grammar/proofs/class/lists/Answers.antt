@@ -1,14 +1,17 @@
-use Rattle.std.proofs.Common.{Break, Continue, sym, ◌∙◌}
-use Rattle.grammar.proofs.Listed.{passing, passed_all}
+use Rattle.std.proofs.Common.{◌≡◌, Break, false, ap, ◌∙◌, rules}
+use Rattle.std.specs.ControlFlow.{control_flow_from_branch}
+use Rattle.std.specs.Option.{unwrap_or}
+use Rattle.grammar.specs.declared.class.Spot.TheVariants.{Fresh}
+use Rattle.grammar.specs.Classes.{listed}
+use Rattle.grammar.proofs.Folded.{found, listed-try_fold}
 use Rattle.grammar.proofs.class.lists.Goals as goal
 
-pub returns-in-Break : goal.returns-in-Break
-returns-in-Break c =
-    passing c.args.c c.args.members.now c.loop-b.spot c.loop-b.b-index c.loop-b-test.true c.loop-b.invariant (Break c.in-Break.taken) (sym c.pass.ensures ∙ c.in-Break.is)
-
-pub loop-b-preserved : goal.loop-b-preserved
-loop-b-preserved c =
-    passing c.args.c c.args.members.now c.loop-b.spot c.loop-b.b-index c.loop-b-test.true c.loop-b.invariant (Continue c.in-Continue.next) (sym c.pass.ensures ∙ c.in-Continue.is)
-
 pub returns : goal.returns
-returns c = passed_all c.args.c c.args.members.now c.loop-b.spot c.loop-b.b-index c.loop-b-test.false c.loop-b.invariant
+returns c =
+    let char = c.args.c in
+    let is : found c.try_fold.result ≡ listed char Fresh c.args.members.now =
+    listed-try_fold char _ (λ v r. v ≡ control_flow_from_branch r) (λ e r. r ≡ Break e.0) _
+    (λ s b v h k. search rules) (λ v s is. is) (λ v e r is back. (e.0, is, back))
+    c.iter.result _ Fresh c.try_fold.result c.try_fold.ensures.ran
+    ∙ ap (listed char Fresh) c.iter.ensures.rest in
+    c.unwrap_or.ensures ∙ ap (λ o. unwrap_or o false) c.break_value.ensures.value ∙ is

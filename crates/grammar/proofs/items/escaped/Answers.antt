@@ -1,11 +1,11 @@
-use Rattle.std.proofs.Common.{◌++◌, ◌∷◌, length, sym, ap, subst, ◌∙◌, arith}
+use Rattle.std.proofs.Common.{◌≡◌, ◌++◌, ◌∷◌, length, sym, ap, subst, ◌∙◌}
 use lib.Utf8.{encode}
-use Rattle.std.proofs.lemmas.Bool.{true≢false}
-use Rattle.chars.specs.declared.sets.Set.TheVariants.{Digits, Words, Spaces}
+use Rattle.grammar.specs.declared.items.Piece.{Piece}
 use Rattle.grammar.specs.Items.{Reads}
-use Rattle.grammar.proofs.First.{Mark, same_reads, set_reads, digit_reads, mark_reads, lone_reads}
+use Rattle.grammar.specs.Parse.{Repeats}
+use Rattle.grammar.proofs.First.{digit_reads, letter_reads, sign_reads, lone_reads}
 use Rattle.grammar.proofs.items.escaped.Goals as goal
-use Rattle.grammar.proofs.items.escaped.Goals.{in-d, in-w, in-s, in_default}
+use Rattle.grammar.proofs.items.escaped.Goals.{in-Some, in-None}
 
 pub returns-in_err-c-clause-reads : goal.returns-in_err-c-clause-reads
 returns-in_err-c-clause-reads c =
@@ -25,16 +25,9 @@ returns-clause-reads c =
     let bytes = c.args.rest.now in
     let left = c.as_str-rest.result.now in
     let char = c.in_ok-c.c in
-    let whole = sym c.chars-chars.ensures.rest ∙ c.in_ok-c.ensures.steps.0 in
-    let from = whole ∙ ap (λ l. encode char ++ l) (sym c.as_str-rest.ensures) in
-    let same = same_reads (92 ∷ bytes) c.match-c.result in
-    let set = set_reads bytes left char from in
-    elim c.match-c.branch [
-      | in-d w ↦ same _ w.result-is (set Digits w.in-d.is _ w.repeated.ensures.repeats)
-      | in-w w ↦ same _ w.result-is (set Words w.in-w.is _ w.repeated-in-w.ensures.repeats)
-      | in-s w ↦ same _ w.result-is (set Spaces w.in-s.is _ w.repeated-in-s.ensures.repeats)
-      | in_default w ↦
-          let no_digit = sym c.if-is_ascii_digit.ensures.value in
-          let mark : Mark char = ((λ is. omega arith), (λ is. omega arith), (λ is. omega arith), (λ is. true≢false (sym is ∙ no_digit))) in
-          same _ w.result-is (mark_reads bytes left char from mark _ w.repeated-in_default.ensures.repeats)
+    let from = sym c.chars-chars.ensures.rest ∙ c.in_ok-c.ensures.steps.0 ∙ ap (λ l. encode char ++ l) (sym c.as_str-rest.ensures) in
+    let again = λ (x : Piece) (is : c.match-set_of.piece ≡ x). subst (λ y. Repeats y left c.repeated.result) is c.repeated.ensures.repeats in
+    elim c.match-set_of.branch [
+      | in-Some w ↦ letter_reads bytes left char from _ (sym w.in-Some.is ∙ c.set_of.ensures) _ (again _ w.piece-is)
+      | in-None w ↦ sign_reads bytes left char from (sym w.in-None.is ∙ c.set_of.ensures) c.if-is_ascii_digit.ensures.value _ (again _ w.piece-is)
     ]
