@@ -85,7 +85,7 @@ fn find(heap: Global, expression: &Expression<'_>, line: &str, place: usize) -> 
     }
     let surely = match Table::fill(heap, expression, line) {
         Ok(mut table) => find_by(&mut table, alternatives, line, place),
-        Err(_) => find_by(&mut Tries::new(Unlimited, DEPTH), alternatives, line, place),
+        Err(_) => find_by(&mut Tries::new(Unlimited, ()), alternatives, line, place),
     };
     match surely {
         Ok(found) => found,

@@ -1,5 +1,5 @@
 // How much may be tried.
-ghost use Rattle.std.specs.Prelude.{◌≡◌, ◌+◌, ◌<◌, ◌↔◌, IsOk, IsOkAnd, IfOk, OnOk, OnErr};
+ghost use Rattle.std.specs.Prelude.{◌≡◌, ◌+◌, ◌<◌, ◌↔◌, IsOk, IfOk, OnOk, OnErr};
 
 use std::convert::Infallible;
 use thiserror::Error;
@@ -8,23 +8,28 @@ pub trait Limit {
     // Why no more may be tried.
     type Stop;
 
-    // Allows one try more, within others; `depth` says how many may be nested in it, and the answer how many in the next one.
-    fn deeper(&mut self, depth: usize) -> Result<usize, Self::Stop>;
+    // How deep tries may still nest.
+    type Depth: Copy;
+
+    // Allows one try more, and says how deep others may nest within it. It promises nothing of its own: a limit may refuse any.
+    fn deeper(&mut self, depth: Self::Depth) -> Result<Self::Depth, Self::Stop>;
 }
 
-// The limit was reached before it was known what there is.
+// It says nothing of whether there is a match.
 #[derive(Clone, Copy, Debug, PartialEq, Eq, Error)]
 #[error("the limit was reached before it was known what there is")]
 pub struct Exhausted;
 
 // So many tries.
-#[derive(Clone, Copy)]
+#[derive(Clone, Copy, Debug, PartialEq, Eq)]
 pub struct Fuel {
     pub left: usize,
 }
 
 impl Limit for Fuel {
     type Stop = Exhausted;
+
+    type Depth = usize;
 
     fn deeper(&mut self, depth: usize) -> Result<usize, Exhausted>
         ensures allowed { IsOk result ↔ ((0 < self.old.left) × (0 < depth)) }
@@ -39,15 +44,17 @@ impl Limit for Fuel {
     }
 }
 
-// As many as it takes.
-#[derive(Clone, Copy)]
+// As many as it takes, nested as deep as it takes.
+#[derive(Clone, Copy, Debug, PartialEq, Eq)]
 pub struct Unlimited;
 
 impl Limit for Unlimited {
     type Stop = Infallible;
 
-    fn deeper(&mut self, depth: usize) -> Result<usize, Infallible>
-        ensures { IsOkAnd result (λ inner. inner ≡ depth) }
+    type Depth = ();
+
+    fn deeper(&mut self, depth: ()) -> Result<(), Infallible>
+        ensures { IsOk result }
     {
         Ok(depth)
     }

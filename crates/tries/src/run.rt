@@ -13,16 +13,16 @@ use ways::start::Start;
 
 // The tries, and where the brackets stand on the way that was found, the last one first.
 #[derive(Drop)]
-pub struct Tries<L> {
+pub struct Tries<L: Limit> {
     pub limit: L,
-    // how many tries may be nested
-    pub depth: usize,
+    // how deep tries may nest
+    pub depth: L::Depth,
     pub brackets: ArrayVec<usize, 30>,
 }
 
 impl<L: Limit> Tries<L> {
-    // Tries that may be nested so deep.
-    pub fn new(limit: L, depth: usize) -> Tries<L>
+    // Tries that may nest so deep.
+    pub fn new(limit: L, depth: L::Depth) -> Tries<L>
         ensures limit { result.limit ≡ limit }
         ensures depth { result.depth ≡ depth }
         ensures none_noted { result.brackets.items ≡ [] }
@@ -40,7 +40,7 @@ impl<L: Limit> Tries<L> {
         &mut self,
         items: &Items<'_>,
         from: &Cursor<'_>,
-        depth: usize,
+        depth: L::Depth,
     ) -> Result<Option<usize>, L::Stop>
         ensures { IfOk result (λ r. Tried items.now from.now self.old.brackets.items r self.new.brackets.items) }
     {
@@ -74,7 +74,7 @@ impl<L: Limit> Tries<L> {
         times: Times,
         items: &Items<'_>,
         from: &Cursor<'_>,
-        depth: usize,
+        depth: L::Depth,
     ) -> Result<Option<usize>, L::Stop>
         ensures { IfOk result (λ r. TriedTimes piece.now times items.now from.now self.old.brackets.items r self.new.brackets.items) }
     {
@@ -99,7 +99,7 @@ impl<L: Limit> Tries<L> {
         piece: &Piece<'_>,
         items: &Items<'_>,
         from: &Cursor<'_>,
-        depth: usize,
+        depth: L::Depth,
     ) -> Result<Option<usize>, L::Stop>
         ensures { IfOk result (λ r. TriedMost piece.now items.now from.now self.old.brackets.items r self.new.brackets.items) }
     {
