@@ -115,7 +115,7 @@ fn after_class(members: &str) -> &str
 }
 
 // A class of an expression. `members` begins with the first member, and the `]` that ends the class stands within it.
-#[derive(Clone, Copy)]
+#[derive(Clone, Copy, Debug, PartialEq, Eq)]
 pub struct Class<'a> {
     pub negated: bool,
     pub members: &'a [u8],

@@ -7,7 +7,7 @@ use crate::legality::check;
 use matcher::answer::Illegal;
 use std::str::from_utf8;
 
-#[derive(Clone, Copy)]
+#[derive(Clone, Copy, Debug, PartialEq, Eq)]
 pub struct Expression<'a> {
     pub text: &'a str,
     ghost legal: { refusal_of text.now ≡ Neither },

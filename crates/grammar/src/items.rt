@@ -9,7 +9,7 @@ use crate::class::Class;
 use chars::sets::Set;
 
 // What takes one character.
-#[derive(Clone, Copy)]
+#[derive(Clone, Copy, Debug, PartialEq, Eq)]
 pub enum Piece<'a> {
     // this character, bare or behind a backslash
     Char(char),
@@ -19,7 +19,7 @@ pub enum Piece<'a> {
     Class(Class<'a>),
 }
 
-#[derive(Clone, Copy)]
+#[derive(Clone, Copy, Debug, PartialEq, Eq)]
 pub enum Times {
     Once,
     // `?`
@@ -30,7 +30,7 @@ pub enum Times {
     Some,
 }
 
-#[derive(Clone, Copy)]
+#[derive(Clone, Copy, Debug, PartialEq, Eq)]
 pub enum Item<'a> {
     Take(Piece<'a>, Times),
     // `^`
@@ -45,7 +45,7 @@ pub enum Item<'a> {
 }
 
 // The items that are left of an expression.
-#[derive(Clone, Copy)]
+#[derive(Clone, Copy, Debug, PartialEq, Eq)]
 pub struct Items<'a> {
     pub rest: &'a str,
 }
