@@ -35,7 +35,7 @@ impl<'a> Start<'a> {
     }
 
     // The begin of the next alternative, if there is one. Reads this one to its end.
-    pub fn next(&self) -> Option<Start<'a>>
+    pub fn following(&self) -> Option<Start<'a>>
         ensures onward { IfSome result (λ s. length s.items.rest.now < length self.now.items.rest.now) }
         ensures after { (e : List ℕ) (is : List g.Item) → Begins e self.now is → After e self.now is result }
     {
@@ -44,8 +44,7 @@ impl<'a> Start<'a> {
             mut nth,
             mut opened,
         } = *self;
-        while let Some((item, others)) = items.split_first() {
-            items = others;
+        while let Some(item) = items.next() {
             nth += 1;
             match item {
                 Item::Bar => {
@@ -80,7 +79,7 @@ impl<'a> Alternatives<'a> {
         let first = Start::first(expression);
         Alternatives {
             next: Some(first),
-            known: Some(first.next()),
+            known: Some(first.following()),
         }
     }
 }
@@ -100,7 +99,7 @@ impl<'a> Iterator for Alternatives<'a> {
         let start = self.next?;
         self.next = match self.known.take() {
             Some(after) => after,
-            None => start.next(),
+            None => start.following(),
         };
         Some(start)
     }
