@@ -10,7 +10,7 @@ use crate::start::Start;
 use arrayvec::ArrayVec;
 
 // The match of an alternative.
-#[derive(Drop)]
+#[derive(Debug, Drop)]
 pub struct Matched {
     pub end: usize,
     // where its brackets stand, left to right; an expression has at most 15 pairs
