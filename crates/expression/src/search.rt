@@ -1,5 +1,5 @@
 // The matcher: its meaning, its laws, and what a search says of the line.
-ghost use Rattle.std.specs.Prelude.{◌≡◌, ℕ, ◌+◌, List, length, Ok as Fine, IfOk, IsOkAnd};
+ghost use Rattle.std.specs.Prelude.{◌≡◌, IfOk};
 ghost use Rattle.scan.specs.Earliest.{found_from};
 ghost use Rattle.ways.specs.Meaning.{at as match_at_spec, meaning};
 ghost use Rattle.ways.specs.Matched.{Keeps};
