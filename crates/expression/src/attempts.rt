@@ -1,5 +1,6 @@
 // The match of an expression at a place: that of its first alternative that matches there.
-ghost use Rattle.std.specs.Prelude.{ℕ, List, IfOk};
+ghost use Rattle.std.specs.Prelude.{IfOk};
+ghost use Rattle.ways.specs.Matched.{Keeps};
 ghost use Rattle.expression.specs.Attempts.{IsMatchAt};
 
 use crate::groups::region;
@@ -14,7 +15,7 @@ pub(crate) fn match_at<W: FindWay>(
     from: &Cursor<'_>,
 ) -> Result<Option<Region>, W::Stop>
     ensures found { IfOk result (IsMatchAt (W.serves way.old) alternatives.entry from.now.line.now from.now.place) }
-    ensures same { (e l : List ℕ) → W.serves way.old e l → W.serves way.new e l }
+    ensures same { Keeps W.serves way.old way.new }
 {
     for start in alternatives {
         if let Some(matched) = way.find_way(&start, from)? {

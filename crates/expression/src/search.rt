@@ -1,7 +1,8 @@
 // The matcher: its meaning, its laws, and what a search says of the line.
-ghost use Rattle.std.specs.Prelude.{◌≡◌, ℕ, ◌+◌, List, length, Ok as Fine, IfOk, IsOkAnd};
+ghost use Rattle.std.specs.Prelude.{◌≡◌, IfOk};
 ghost use Rattle.scan.specs.Earliest.{found_from};
 ghost use Rattle.ways.specs.Meaning.{at as match_at_spec, meaning};
+ghost use Rattle.ways.specs.Matched.{Keeps};
 ghost use Rattle.preference.specs.Found.{Told};
 ghost use Rattle.expression.specs.Attempts.{IsTriedAt, IsFoundFrom};
 ghost use Rattle.preference.proofs.Placing.{expression_lawful};
@@ -64,7 +65,7 @@ fn find_by<W: FindWay>(
         place,
         |at|
             ensures found { IfOk result (IsTriedAt (W.serves way.entry.now) alternatives.entry line.entry.now at) }
-            ensures same { (e l : List ℕ) → W.serves way.entry.now e l → W.serves way.exit.now e l }
+            ensures same { Keeps W.serves way.entry.now way.exit.now }
         {
             match Cursor::new(line, at) {
                 Some(from) => match_at(way, alternatives, &from),

@@ -24,3 +24,7 @@ brackets (x ∷ is) (q ∷ w) = cond (is_bracket x) (q ∷ brackets is w) (brack
 abbrev pub Matches : List g.Item → ℕ → Option Way → Option Matched → Type 0
 Matches js p o None = o ≡ None
 Matches js p o (Some m) = (w : Way) × (o ≡ Some w) × (end_of p w ≡ m.end) × (length (brackets js w) ≤ 30 → m.brackets.items ≡ brackets js w)
+
+-- each expression and line that the way serves as it was, it serves as it is
+abbrev pub Keeps : {W : Type 0} → (W → List ℕ → List ℕ → Type 0) → W → W → Type 0
+Keeps Serves was is = (e l : List ℕ) → Serves was e l → Serves is e l

@@ -17,13 +17,18 @@ abbrev pub After : List ℕ → Start → List g.Item → Option Start → Type 
 After e s is None = alternatives is ≡ leading is ∷ []
 After e s is (Some t) = (js : List g.Item) × Begins e t js × (alternatives is ≡ leading is ∷ alternatives js) × (t.opened ≡ s.opened + pairs (leading is))
 
+-- what follows the alternative that begins at s, if it is known
+abbrev pub Known : List ℕ → Start → List g.Item → Option (Option Start) → Type 0
+Known e s is None = Unit {0}
+Known e s is (Some after) = After e s is after
+
 -- the alternatives alts of e are left, and n brackets were opened before them
-abbrev pub LeftFrom : List ℕ → ℕ → Option Start → Option Start → List (List g.Item) → Type 0
-LeftFrom e n None after alts = alts ≡ []
-LeftFrom e n (Some s) after alts = (is : List g.Item) × Begins e s is × (s.opened ≡ n) × (alternatives is ≡ alts) × After e s is after
+abbrev pub LeftFrom : List ℕ → ℕ → Option Start → Option (Option Start) → List (List g.Item) → Type 0
+LeftFrom e n None known alts = alts ≡ []
+LeftFrom e n (Some s) known alts = (is : List g.Item) × Begins e s is × (s.opened ≡ n) × (alternatives is ≡ alts) × Known e s is known
 
 abbrev pub Left : List ℕ → ℕ → Alternatives → List (List g.Item) → Type 0
-Left e n a alts = LeftFrom e n a.next a.after alts
+Left e n a alts = LeftFrom e n a.next a.known alts
 
 -- of those that were left, r is the first, and the others are left in a
 abbrev pub Gives : List ℕ → ℕ → List (List g.Item) → Option Start → Alternatives → Type 0
@@ -37,10 +42,11 @@ abbrev pub Advances : Alternatives → Option Start → Alternatives → Type 0
 Advances a r b = (e : List ℕ) (n : ℕ) (alts : List (List g.Item)) → Left e n a alts → Gives e n alts r b
 
 -- no more alternatives than this are left: each but the first has a bar of its own before it
-abbrev pub count_from : Option Start → Option Start → ℕ
-count_from None after = 0
-count_from (Some s) None = 1
-count_from (Some s) (Some t) = 2 + length t.items.rest.now
+abbrev pub count_from : Option Start → Option (Option Start) → ℕ
+count_from None known = 0
+count_from (Some s) None = 1 + length s.items.rest.now
+count_from (Some s) (Some None) = 1
+count_from (Some s) (Some (Some t)) = 2 + length t.items.rest.now
 
 abbrev pub count_left : Alternatives → ℕ
-count_left a = count_from a.next a.after
+count_left a = count_from a.next a.known

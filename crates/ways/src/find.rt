@@ -10,15 +10,16 @@ use crate::start::Start;
 use arrayvec::ArrayVec;
 
 // The match of an alternative.
-#[derive(Drop)]
+#[derive(Debug, Drop)]
 pub struct Matched {
+    // the place of the line where it ends
     pub end: usize,
     // where its brackets stand, left to right; an expression has at most 15 pairs
     pub brackets: ArrayVec<usize, 30>,
 }
 
 pub trait FindWay {
-    ghost use Rattle.ways.specs.Matched.{Matches};
+    ghost use Rattle.ways.specs.Matched.{Matches, Keeps};
 
     // Why it may come to no answer.
     type Stop;
@@ -26,12 +27,12 @@ pub trait FindWay {
     // It serves this expression and this line.
     ghost serves: { Self → List ℕ → List ℕ → Type 0 };
 
-    // The match that begins at the place, of the alternative that begins there.
+    // The match that begins at the place `from` of the line, of the alternative that begins at `start` in the expression.
     fn find_way(
         &mut self,
         start: &Start<'_>,
         from: &Cursor<'_>,
     ) -> Result<Option<Matched>, Self::Stop>
         ensures found { IfOk result (λ r. (e : List ℕ) (is : List g.Item) → serves self.old e from.now.line.now → Begins e start.now is → Matches (leading is) from.now.place (run from.now.line.now (leading is) from.now.place) r) }
-        ensures same { (e l : List ℕ) → serves self.old e l → serves self.new e l };
+        ensures same { Keeps serves self.old self.new };
 }

@@ -35,7 +35,7 @@ impl<'a> Start<'a> {
     }
 
     // The begin of the next alternative, if there is one. Reads this one to its end.
-    pub fn next(&self) -> Option<Start<'a>>
+    pub fn following(&self) -> Option<Start<'a>>
         ensures onward { IfSome result (λ s. length s.items.rest.now < length self.now.items.rest.now) }
         ensures after { (e : List ℕ) (is : List g.Item) → Begins e self.now is → After e self.now is result }
     {
@@ -44,8 +44,7 @@ impl<'a> Start<'a> {
             mut nth,
             mut opened,
         } = *self;
-        while let Some((item, others)) = items.split_first() {
-            items = others;
+        while let Some(item) = items.next() {
             nth += 1;
             match item {
                 Item::Bar => {
@@ -59,12 +58,14 @@ impl<'a> Start<'a> {
     }
 }
 
-// The alternatives that are left of an expression, left to right. The one behind the next is known already, so that going
-// through them from the first costs no reading where that one matches.
+// The alternatives that are left of an expression, left to right. What follows the first one is known from the begin, so that
+// going through them at each place of a line reads nothing unless the second one is asked for. What follows any other is read
+// when that one is given.
 #[derive(Clone, Copy)]
 pub struct Alternatives<'a> {
-    pub next: Option<Start<'a>>,
-    pub after: Option<Start<'a>>,
+    next: Option<Start<'a>>,
+    // what follows that one, if it is known
+    known: Option<Option<Start<'a>>>,
 }
 
 impl<'a> Alternatives<'a> {
@@ -78,7 +79,7 @@ impl<'a> Alternatives<'a> {
         let first = Start::first(expression);
         Alternatives {
             next: Some(first),
-            after: first.next(),
+            known: Some(first.following()),
         }
     }
 }
@@ -95,9 +96,11 @@ impl<'a> Iterator for Alternatives<'a> {
     ghost remaining = { λ a. at_most (count_left a) };
 
     fn next(&mut self) -> Option<Start<'a>> {
-        let next = self.next?;
-        self.next = self.after;
-        self.after = self.after.and_then(|start| start.next());
-        Some(next)
+        let start = self.next?;
+        self.next = match self.known.take() {
+            Some(after) => after,
+            None => start.following(),
+        };
+        Some(start)
     }
 }

@@ -5,6 +5,7 @@ use Rattle.scan.specs.Earliest.{found_from}
 use Rattle.scan.proofs.Attempts.{takes_by, finds_by}
 use Rattle.grammar.specs.Parse.{items}
 use Rattle.ways.specs.declared.start.Alternatives.{Alternatives}
+use Rattle.ways.specs.Matched.{Keeps}
 use Rattle.ways.specs.Meaning.{at, alternatives}
 use Rattle.ways.specs.Starts.{Left}
 use Rattle.expression.specs.Attempts.{IsTriedAt, IsFoundFrom}
@@ -27,7 +28,7 @@ module _ {W M : Type 0} (Serves : W → List ℕ → List ℕ → Type 0) (e l :
   Kept f = (f.0.now ≡ l) × Serves f.1.now e l × (f.2.now ≡ a)
 
   kept_on : {E : Type 0} (f f' : Bor (List ℕ) × MutBor W × Bor Alternatives × M) (p : ℕ) (r : Result (Option Region) E) → Kept f → IsCharBoundary l p → Left e 0 a (alternatives (items e))
-      → IfOk r (IsTriedAt (Serves f.1.now) f.2.now f.0.now p) → ((d m : List ℕ) → Serves f.1.now d m → Serves f'.1.now d m) → f'.0.now ≡ f.0.now → f'.2.now ≡ f.2.now
+      → IfOk r (IsTriedAt (Serves f.1.now) f.2.now f.0.now p) → Keeps Serves f.1.now f'.1.now → f'.0.now ≡ f.0.now → f'.2.now ≡ f.2.now
       → MatchResult r (λ o. o ≡ at e l p) (λ _. true ≡ true) × Kept f'
   kept_on f f' p r k b left found same line others =
       let here = subst (λ (x : Alternatives). IfOk r (IsTriedAt (Serves f.1.now) x l p)) k.2 (subst (λ (m : List ℕ). IfOk r (IsTriedAt (Serves f.1.now) f.2.now m p)) k.0 found) in

@@ -2,7 +2,7 @@ use Rattle.std.proofs.Common.{ℕ, ◌+◌, ◌<◌, ◌≤◌, ◌^◌, List, l
 use Rattle.grammar.specs.Grammar as g
 use Rattle.ways.specs.Starts.{Begins}
 use Rattle.ways.proofs.Starts.{Passed}
-use Rattle.ways.proofs.start.Start.next.Given as goal
+use Rattle.ways.proofs.start.Start.following.Given as goal
 
 abbrev pub invariant-loop-item : goal.invariant-loop-item
 invariant-loop-item l = record {
