@@ -26,7 +26,7 @@ use ways::start::Alternatives;
 const DEPTH: usize = 2048;
 
 // It remembers what matches where in memory of the heap, where the quick tries do not suffice.
-#[derive(Clone, Copy)]
+#[derive(Clone, Copy, Debug)]
 pub struct ExpressionMatcher {
     heap: Global,
 }

@@ -14,10 +14,11 @@ use thiserror::Error;
 pub enum Failure {
     #[error(transparent)]
     Illegal(Illegal),
-    #[error("out of memory")]
+    #[error("there is not enough memory")]
     Memory,
 }
 
+// By hand, and not by `#[from]`, so that clauses can name the error that a `?` makes.
 impl From<Illegal> for Failure {
     ghost from_gives = { λ x r. r ≡ Refused x };
 

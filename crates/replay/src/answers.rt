@@ -43,13 +43,23 @@ fn print_answer<W: Write>(out: &mut W, answer: &Answer) -> io::Result<()> {
 // What goes from record to record: where the answers are printed, the number of the line, and the matcher that was named last.
 #[derive(Drop)]
 pub(crate) struct Replay<'w, W> {
-    pub out: &'w mut W,
-    pub heap: Global,
-    pub number: u64,
-    pub matcher: Option<Named>,
+    out: &'w mut W,
+    heap: Global,
+    number: u64,
+    matcher: Option<Named>,
 }
 
-impl<W: Write> Replay<'_, W> {
+impl<'w, W: Write> Replay<'w, W> {
+    // Before the first record no matcher is named.
+    pub(crate) fn new(out: &'w mut W, heap: Global) -> Replay<'w, W> {
+        Replay {
+            out,
+            heap,
+            number: 0,
+            matcher: None,
+        }
+    }
+
     fn print_mistake(&mut self, mistake: Mistake) -> io::Result<()> {
         let number = self.number;
         writeln!(self.out, "? line {number}: {mistake}")

@@ -21,13 +21,7 @@ fn run(rt: &HostRuntime) -> io::Result<()> {
     let mut cases = Vec::new(rt.alloc());
     rt.stdin().read_to_end(&mut cases)?;
     let mut out = BufWriter::new(rt.alloc(), rt.stdout())?;
-    let mut replay = Replay {
-        out: &mut out,
-        heap: rt.alloc(),
-        number: 0,
-        matcher: None,
-    };
-    replay.answer_all(cases.as_slice())?;
+    Replay::new(&mut out, rt.alloc()).answer_all(cases.as_slice())?;
     out.flush()
 }
 

@@ -64,11 +64,12 @@ fn run(rt: &HostRuntime) -> Result<(), Trouble> {
 
 fn main(rt: HostRuntime) -> ExitCode {
     match run(&rt) {
-        Ok(()) => return ExitCode::SUCCESS,
-        Err(Trouble::Refused) => {}
+        Ok(()) => ExitCode::SUCCESS,
+        // the caret has shown it
+        Err(Trouble::Refused) => ExitCode::FAILURE,
         Err(trouble) => {
             let _ = eprintln!(rt; "{trouble}");
+            ExitCode::FAILURE
         }
     }
-    ExitCode::FAILURE
 }

@@ -13,7 +13,7 @@ use matcher::search::Matcher;
 use scan::attempt::first_from;
 use words::reader::State;
 
-#[derive(Clone, Copy)]
+#[derive(Clone, Copy, Debug)]
 pub struct WordMatcher;
 
 // The first word of the expression that counts at the place.

@@ -1,48 +1,32 @@
 // The words of an expression, held against the line at one place.
 ghost use Rattle.std.specs.Prelude.{◌≡◌, ◌≤◌, length};
-ghost use Rattle.words.specs.Meaning.{side, free_before as free_before_spec, free_after as free_after_spec};
+ghost use Rattle.words.specs.Meaning.{free_before as free_before_spec, free_after as free_after_spec};
 ghost use Rattle.word.specs.Walks.{fresh, bar, letter_at, stepped, end_of, found};
 
 use chars::sets::Set;
 
-// What may not touch a word on either side.
-pub fn is_side(b: u8) -> bool
-    ensures { result ≡ side b }
-{
-    Set::Words.takes(b)
-}
-
-// Nothing touches a word that begins at the place.
-pub fn free_before(line: &[u8], place: usize) -> bool
+// No word character touches a word that begins at the place.
+pub(crate) fn free_before(line: &[u8], place: usize) -> bool
     requires { place ≤ length line.now }
     ensures { result ≡ free_before_spec line.now place }
 {
-    place == 0 || !is_side(line[place - 1])
+    line[..place].last().is_none_or(|b| !Set::Words.takes(*b))
 }
 
-// Nothing touches a word that ends at the place.
+// No word character touches a word that ends at the place.
 fn free_after(line: &[u8], place: usize) -> bool
     ensures { result ≡ free_after_spec line.now place }
 {
-    line.get(place).is_none_or(|b| !is_side(*b))
+    line.get(place).is_none_or(|b| !Set::Words.takes(*b))
 }
 
 // How far a word of the expression has been read and found in the line.
 #[derive(Clone, Copy, Debug, PartialEq, Eq)]
-pub struct Walk {
+pub(crate) struct Walk {
     // after a backslash
     escaped: bool,
     // where the line goes on; none once they differed
     reached: Option<usize>,
-}
-
-// One byte more of the word.
-fn letter(reached: Option<usize>, b: u8, line: &[u8]) -> Option<usize>
-    ensures { result ≡ letter_at reached b line.now }
-{
-    let at = reached?;
-    let next = line.get(at)?;
-    b.eq_ignore_ascii_case(next).then_some(at + 1)
 }
 
 impl Walk {
@@ -62,6 +46,15 @@ impl Walk {
         !self.escaped && b == b'|'
     }
 
+    // Where the line goes on after one letter more of the word.
+    fn letter(self, b: u8, line: &[u8]) -> Option<usize>
+        ensures { result ≡ letter_at self.reached b line.now }
+    {
+        let at = self.reached?;
+        let next = line.get(at)?;
+        b.eq_ignore_ascii_case(next).then_some(at + 1)
+    }
+
     // The walk after one byte more of the word.
     fn step(self, b: u8, line: &[u8]) -> Walk
         ensures { result ≡ stepped self b line.now }
@@ -75,7 +68,7 @@ impl Walk {
         let reached = if self.escaped && Set::Digits.takes(b) {
             None
         } else {
-            letter(self.reached, b, line)
+            self.letter(b, line)
         };
         Walk {
             escaped: false,
@@ -92,7 +85,7 @@ impl Walk {
 }
 
 // Where the first word that stands at the place ends.
-pub fn first_word(expression: &[u8], line: &[u8], place: usize) -> Option<usize>
+pub(crate) fn first_word(expression: &[u8], line: &[u8], place: usize) -> Option<usize>
     ensures { result ≡ found line.now place (fresh place) expression.now }
 {
     let mut walk = Walk::begin(place);
