@@ -8,7 +8,7 @@ use chars::sets::Set;
 
 // Outside of a class.
 #[derive(Clone, Copy, Debug, PartialEq, Eq)]
-pub enum Kind {
+pub(crate) enum Kind {
     Bare,
     Lead(Owed),
     Bar,
@@ -24,7 +24,7 @@ pub enum Kind {
 
 // In a class.
 #[derive(Clone, Copy, Debug, PartialEq, Eq)]
-pub enum Inside {
+pub(crate) enum Inside {
     Bare,
     Backslash,
     Shut,
@@ -33,14 +33,14 @@ pub enum Inside {
 
 // After a backslash.
 #[derive(Clone, Copy, Debug, PartialEq, Eq)]
-pub enum Escaped {
+pub(crate) enum Escaped {
     Mark,
     Digit,
     Set(Set),
 }
 
 // None where nothing begins with the byte.
-pub fn kind_of(b: u8) -> Option<Kind>
+pub(crate) fn kind_of(b: u8) -> Option<Kind>
     ensures { result ≡ kind_of b }
 {
     if is_bare(b) {
@@ -61,7 +61,7 @@ pub fn kind_of(b: u8) -> Option<Kind>
 }
 
 // None where the byte may not stand there.
-pub fn inside_of(b: u8) -> Option<Inside>
+pub(crate) fn inside_of(b: u8) -> Option<Inside>
     ensures { result ≡ inside_of_spec b }
 {
     if b < 128 && !is_mark(b) {
@@ -88,7 +88,7 @@ pub(crate) fn set_of(letter: char) -> Option<Set>
 }
 
 // None where no backslash may stand before the byte.
-pub fn escaped_of(b: u8) -> Option<Escaped>
+pub(crate) fn escaped_of(b: u8) -> Option<Escaped>
     ensures { result ≡ escaped_of_spec b }
 {
     if is_mark(b) {

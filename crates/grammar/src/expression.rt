@@ -20,10 +20,8 @@ impl<'a> Expression<'a> {
     {
         check(bytes)?;
         // every item is written in whole characters
-        match from_utf8(bytes) {
-            Ok(text) => Ok(Expression { text }),
-            Err(_) => unreachable!(),
-        }
+        let text = from_utf8(bytes).unwrap();
+        Ok(Expression { text })
     }
 
     // Its items, all of them.

@@ -8,7 +8,7 @@ use chars::leads::Owed;
 use matcher::reading::Reader;
 
 #[derive(Clone, Copy, Debug, PartialEq, Eq)]
-pub enum Mode {
+pub(crate) enum Mode {
     // between items, where no repeat may follow
     Plain,
     // behind a piece, which a repeat may follow
@@ -30,12 +30,12 @@ pub enum Mode {
 }
 
 #[derive(Clone, Copy, Debug, PartialEq, Eq)]
-pub struct State {
+pub(crate) struct State {
     // pairs that were opened so far
-    pub groups: u8,
+    pub(crate) groups: u8,
     // those that are open
-    pub depth: u8,
-    pub mode: Mode,
+    pub(crate) depth: u8,
+    pub(crate) mode: Mode,
 }
 
 impl State {
