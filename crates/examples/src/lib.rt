@@ -40,10 +40,7 @@ mod tests {
 
     // Whether the first line of the bytes is this, and the rest that.
     fn is_cut(bytes: &[u8], line: &[u8], rest: &[u8]) -> bool {
-        match next_line(bytes) {
-            Some((first, behind)) => first == line && behind == rest,
-            None => false,
-        }
+        matches!(next_line(bytes), Some((first, behind)) if first == line && behind == rest)
     }
 
     #[test]

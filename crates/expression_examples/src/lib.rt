@@ -185,10 +185,8 @@ mod tests {
     }
 
     fn is_group(answer: &Answer, k: usize, expected: Option<(usize, usize)>) -> bool {
-        match answer {
-            Ok(Some(region)) => region.group(k) == expected.map(|(begin, end)| Span { begin, end }),
-            _ => false,
-        }
+        let expected = expected.map(|(begin, end)| Span { begin, end });
+        matches!(answer, Ok(Some(region)) if region.group(k) == expected)
     }
 
     #[test]
