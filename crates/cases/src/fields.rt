@@ -9,7 +9,6 @@ use crate::fault::Fault;
 use crate::hex::read_bytes;
 use crate::number::read_number;
 use std::alloc::Global;
-use std::marker::Model;
 
 // Where the first space stands.
 fn first_space(bytes: &[u8]) -> Option<usize>
@@ -29,30 +28,21 @@ fn split_field(bytes: &[u8]) -> (&[u8], Option<&[u8]>)
 }
 
 // The fields that are left of a record, as an iterator.
-#[derive(Clone, Drop)]
+#[derive(Clone, Copy)]
 pub struct Fields<'a> {
     // none behind the last field
     rest: Option<&'a [u8]>,
 }
 
-// In clauses it is the list of the fields that are left.
-impl<'a> Model for Fields<'a> {
-    ghost use Rattle.std.specs.Prelude.{List, ℕ};
-    ghost use Rattle.cases.specs.Fields.{left};
-
-    ghost Value = { List (List ℕ) };
-
-    ghost view = { λ fields. left fields.rest };
-}
-
 impl<'a> Iterator for Fields<'a> {
     type Item = &'a [u8];
 
+    ghost use Rattle.cases.specs.Fields.{left};
     ghost use Rattle.std.specs.Iterator.{YieldsFirstRef, item_count};
 
-    ghost next_gives = { YieldsFirstRef (λ fields. fields) };
+    ghost next_gives = { YieldsFirstRef (λ fields. left fields.rest) };
 
-    ghost remaining = { item_count (λ fields. fields) };
+    ghost remaining = { item_count (λ fields. left fields.rest) };
 
     fn next(&mut self) -> Option<&'a [u8]> {
         let rest = self.rest?;
@@ -64,7 +54,7 @@ impl<'a> Iterator for Fields<'a> {
 
 impl<'a> Fields<'a> {
     pub fn new(bytes: &'a [u8]) -> Fields<'a>
-        ensures all { result ≡ fields_of bytes.now }
+        ensures all { left result.rest ≡ fields_of bytes.now }
         ensures parted { Parted bytes.now }
     {
         Fields { rest: Some(bytes) }
@@ -72,28 +62,28 @@ impl<'a> Fields<'a> {
 
     // The next field as it stands.
     pub fn word(&mut self) -> Result<&'a [u8], Fault>
-        ensures { MatchResult result (λ w. self.old ≡ w.now ∷ self.new) (λ x. (x ≡ NoneLeft) × (self.old ≡ []) × (self.new ≡ [])) }
+        ensures { MatchResult result (λ w. left self.old.rest ≡ w.now ∷ left self.new.rest) (λ x. (x ≡ NoneLeft) × (left self.old.rest ≡ []) × (left self.new.rest ≡ [])) }
     {
         self.next().ok_or(Fault::Missing)
     }
 
     // The next field as a decimal number.
     pub fn number(&mut self) -> Result<u32, Fault>
-        ensures { Takes Writes Blamed self.old self.new result }
+        ensures { Takes Writes Blamed (left self.old.rest) (left self.new.rest) result }
     {
         read_number(self.word()?)
     }
 
     // The next field as bytes in hexadecimal.
     pub fn bytes(&mut self, heap: Global) -> Result<Vec<u8>, Fault>
-        ensures { Takes (λ v field. spelled v.items ≡ field) Faulty self.old self.new result }
+        ensures { Takes (λ v field. spelled v.items ≡ field) Faulty (left self.old.rest) (left self.new.rest) result }
     {
         read_bytes(heap, self.word()?)
     }
 
     // Nothing is left.
     pub fn end(&self) -> Result<(), Fault>
-        ensures { MatchResult result (λ _. self.now ≡ []) (λ x. (x ≡ SomeLeft) × (0 < length self.now)) }
+        ensures { MatchResult result (λ _. left self.now.rest ≡ []) (λ x. (x ≡ SomeLeft) × (0 < length (left self.now.rest))) }
     {
         match self.rest {
             Some(_) => Err(Fault::Extra),
