@@ -74,6 +74,11 @@ answer_nothing o h = cc
 answer_never : (o : Option Region) (x : Illegal) → answer o ≡ Err x → ⊥
 answer_never o x h = cc
 
+-- what a check passes is not refused
+pub unrefused : (o : Option ℕ) (u : Unit {0}) → Ok u ≡ verdict o → o ≡ None
+unrefused None u h = refl
+unrefused (Some k) u h = cc
+
 module _ (refusal : List ℕ → Option ℕ) (at : List ℕ → List ℕ → ℕ → Option Region) where
   case_of : (e l : List ℕ) (p : ℕ) (o : Option ℕ) → refusal e ≡ o → (b : Bool) → (text l && edge l p) ≡ b → Case refusal e l p
   case_of e l p (Some k) eo b eb = refused k eo
@@ -178,10 +183,6 @@ module _ (refusal : List ℕ → Option ℕ) (at : List ℕ → List ℕ → ℕ
 
   pub checked_earliest : (e l : List ℕ) (p : ℕ) → checked (earliest refusal at e l p) ≡ verdict (refusal e)
   checked_earliest e l p = checked_case e l p (case e l p)
-
-  unrefused : (o : Option ℕ) (u : Unit {0}) → Ok u ≡ verdict o → o ≡ None
-  unrefused None u h = refl
-  unrefused (Some k) u h = cc
 
   -- what `first_from` finds in a text is the answer of a legal expression
   found_answers_at : (e l : List ℕ) (p : ℕ) → refusal e ≡ None → IsUtf8 l → (b : Bool) → edge l p ≡ b → Ok (cond b (earliest_from l (at e l) p) None) ≡ earliest refusal at e l p

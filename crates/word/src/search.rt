@@ -1,6 +1,7 @@
 // The matcher: its meaning, its laws, and what a search says of the line.
 ghost use Rattle.std.specs.Prelude.{◌≡◌};
 ghost use Rattle.std.specs.Str.{IsCharBoundary};
+ghost use Rattle.words.specs.Reader.{refusal as refusal_of};
 ghost use Rattle.words.specs.Meaning.{word_at as word_at_spec, meaning};
 ghost use Rattle.words.specs.Found.{Told};
 ghost use Rattle.words.proofs.Telling;
@@ -10,7 +11,7 @@ use crate::walk::{first_word, free_before};
 use matcher::answer::{Answer, Illegal, Region};
 use matcher::reading;
 use matcher::search::Matcher;
-use scan::attempt::first_from;
+use scan::attempt::{Attempt, first_from};
 use words::reader::State;
 
 #[derive(Clone, Copy, Debug)]
@@ -29,6 +30,22 @@ fn word_at(expression: &[u8], line: &str, place: usize) -> Option<Region>
     Some(Region::spanning(place, end))
 }
 
+impl Attempt for WordMatcher {
+    ghost refusal = { λ _. refusal_of };
+
+    ghost at = { λ _. word_at_spec };
+
+    ghost placed = { λ a e l p r fine utf8 edge h. Telling.placed e l p r fine utf8 edge h };
+
+    fn refuses(&self, expression: &[u8]) -> Result<(), Illegal> {
+        reading::check(State::Empty, expression)
+    }
+
+    fn attempt(&self, expression: &[u8], line: &str, place: usize) -> Option<Region> {
+        word_at(expression, line, place)
+    }
+}
+
 impl Matcher for WordMatcher {
     ghost means = { λ _. meaning };
 
@@ -39,7 +56,7 @@ impl Matcher for WordMatcher {
     ghost told = { λ m e l p. Telling.told_meaning e l p };
 
     fn check(&self, expression: &[u8]) -> Result<(), Illegal> {
-        reading::check(State::Empty, expression)
+        self.refuses(expression)
     }
 
     fn search_text(&self, expression: &[u8], line: &str, place: usize) -> Answer {
