@@ -7,7 +7,7 @@ use Rattle.grammar.specs.declared.bytes.Escaped.TheVariants as e
 use Rattle.grammar.specs.declared.class.Spot.{Spot}
 use Rattle.grammar.specs.declared.class.Spot.TheVariants.{Fresh, Escape, Last, Range, RangeEscape}
 use Rattle.grammar.specs.Bytes.{escaped_of}
-use Rattle.grammar.specs.Grammar.{Member, one, range, every, value, caret, member, members, GoodMember, GoodMembers}
+use Rattle.grammar.specs.Grammar.{Member, one, range, every, class, value, caret, member, members, piece, GoodMember, GoodMembers}
 
 -- a member takes c: it is that character, or c lies in the range, both ends in, or in the set
 abbrev pub in_member : Member → ℕ → Bool
@@ -84,6 +84,12 @@ pub record Holds (negated : Bool) (bytes : List ℕ) (not : Bool) (m : Member) (
   pub others : GoodMembers ms
   pub rest : List ℕ
   pub written : bytes ≡ member m (members ms (93 ∷ rest))
+
+-- whatever class is written at i, it is held
+abbrev pub OpensAt : List ℕ → ℕ → Bool → List ℕ → Type 0
+OpensAt e i negated bytes =
+    (not : Bool) (m : Member) (ms : List Member) (rest : List ℕ) → GoodMember m → GoodMembers ms
+    → piece (class not m ms) rest ≡ drop i e → Holds negated bytes not m ms
 
 -- whatever class is written behind its `[`, it is held, and after is what follows it
 abbrev pub Opens : List ℕ → Bool → List ℕ → List ℕ → Type 0

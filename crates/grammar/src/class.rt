@@ -1,7 +1,7 @@
 // A class, and which characters it takes.
-ghost use Rattle.std.specs.Prelude.{◌≡◌, ◌≤◌, false, length};
+ghost use Rattle.std.specs.Prelude.{◌≡◌, ◌+◌, ◌≤◌, false, length, drop};
 ghost use Rattle.grammar.specs.Items.{shut_of};
-ghost use Rattle.grammar.specs.Classes.{unless, fresh as fresh_to, single as single_to, up_to, after_escape as after_escape_spec, passes, listed, taken, Opens, Tests, TestsWide};
+ghost use Rattle.grammar.specs.Classes.{unless, fresh as fresh_to, single as single_to, up_to, after_escape as after_escape_spec, passes, listed, complemented, members_of, taken, OpensAt, Opens, Tests, TestsWide};
 ghost use Rattle.grammar.specs.Bytes.{escaped_of};
 ghost use Rattle.grammar.specs.declared.class.Spot.TheVariants.{Fresh};
 
@@ -122,8 +122,32 @@ pub struct Class<'a> {
 }
 
 impl<'a> Class<'a> {
+    // The class whose `[` stands at `i`. Where none stands there, some class.
+    pub fn at(expression: &'a [u8], i: usize) -> Class<'a>
+        ensures negated { result.negated ≡ complemented (drop (i + 1) expression.now) }
+        ensures members { result.members.now ≡ members_of (drop (i + 1) expression.now) }
+        ensures opens { OpensAt expression.now i result.negated result.members.now }
+    {
+        let behind = match expression.get(i..) {
+            Some([_, behind @ ..]) => behind,
+            _ => &[],
+        };
+        match behind {
+            [b'^', members @ ..] => Class {
+                negated: true,
+                members,
+            },
+            _ => Class {
+                negated: false,
+                members: behind,
+            },
+        }
+    }
+
     // The class whose bytes behind `[` begin the text, and what follows its `]`. Where there is no such class, some class.
     pub(crate) fn split(text: &'a str) -> (Class<'a>, &'a str)
+        ensures negated { result.0.negated ≡ complemented text.now }
+        ensures members { result.0.members.now ≡ members_of text.now }
         ensures opens { Opens text.now result.0.negated result.0.members.now result.1.now }
         ensures within { length result.1.now ≤ length text.now }
     {

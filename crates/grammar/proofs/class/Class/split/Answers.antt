@@ -5,6 +5,29 @@ use Rattle.grammar.proofs.Listed.{Seen, seen, unseen, opens}
 use Rattle.grammar.proofs.class.Class.split.Goals as goal
 use Rattle.grammar.proofs.class.Class.split.Goals.{in-Some, in-None}
 
+pub returns-clause-negated : goal.returns-clause-negated
+returns-clause-negated c =
+    let text = c.args.text.now in
+    elim c.match-strip_prefix.branch [
+      | in-Some w ↦
+          let h = w.in-Some.ensures.cases in
+          let from = h.1.split ∙ ap (λ l. encode 94 ++ l) (sym h.2) in
+          ap (λ p. p.0) w.negated-is ∙ (seen text w.in-Some.members.now from).0
+      | in-None w ↦ ap (λ p. p.0) w.negated-is ∙ (unseen text w.in-None.ensures.cases).0
+    ]
+
+pub returns-clause-members : goal.returns-clause-members
+returns-clause-members c =
+    let text = c.args.text.now in
+    c.as_bytes.ensures.value
+    ∙ elim c.match-strip_prefix.branch [
+      | in-Some w ↦
+          let h = w.in-Some.ensures.cases in
+          let from = h.1.split ∙ ap (λ l. encode 94 ++ l) (sym h.2) in
+          ap (λ p. p.1.now) w.negated-is ∙ (seen text w.in-Some.members.now from).1
+      | in-None w ↦ ap (λ p. p.1.now) w.negated-is ∙ (unseen text w.in-None.ensures.cases).1
+    ]
+
 pub returns-clause-opens : goal.returns-clause-opens
 returns-clause-opens c =
     let text = c.args.text.now in
