@@ -1,5 +1,5 @@
 -- What a table remembers of an expression and a line. Assumes nothing.
-use Rattle.std.specs.Prelude.{◌≡◌, ℕ, zero, suc, ◌≤◌, Bool, List, [], ◌∷◌, length, drop, vec_items, Vec}
+use Rattle.std.specs.Prelude.{◌≡◌, ℕ, zero, suc, ◌≤◌, Bool, List, [], ◌∷◌, length, drop, vec_items, Vec, nat_lt}
 use Rattle.grammar.specs.Grammar as g
 use Rattle.grammar.specs.Parse.{items}
 use Rattle.ways.specs.declared.start.Start.{Start}
@@ -13,6 +13,10 @@ abbrev pub row_at : {Z : Type 0} → List (Vec Bool Z) → ℕ → List Bool
 row_at [] n = []
 row_at (v ∷ vs) zero = vec_items v
 row_at (v ∷ vs) (suc n) = row_at vs n
+
+-- there is a row
+abbrev pub is_filled : Table → Bool
+is_filled t = nat_lt 0 (length (vec_items t.rows))
 
 -- there is a row for the items is, for those behind the first, and so on, and one for no item
 pub record RowsOf {Z : Type 0} (l : List ℕ) (is : List g.Item) (rows : List (Vec Bool Z)) : Type 0 where

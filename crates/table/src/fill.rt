@@ -1,5 +1,6 @@
 // A table of which items match from which places, filled from the last item to the first.
-ghost use Rattle.std.specs.Prelude.{[], IfOk};
+ghost use Rattle.std.specs.Prelude.{◌≡◌, true, false, [], IfOk};
+ghost use Rattle.grammar.specs.Grammar.{Legal};
 ghost use Rattle.table.specs.Cells.{Row};
 
 use crate::row::row;
@@ -22,7 +23,22 @@ fn last_row(heap: Global, line: &str) -> Result<Vec<bool>, AllocError>
 }
 
 impl Table {
-    ghost use Rattle.table.specs.Tables.{Filled};
+    ghost use Rattle.table.specs.Tables.{is_filled as is_filled_spec, Filled};
+
+    // A table that is not filled. Allocates nothing.
+    pub fn none(heap: Global) -> Table
+        ensures { is_filled_spec result ≡ false }
+    {
+        Table {
+            rows: Vec::new(heap),
+        }
+    }
+
+    pub fn is_filled(&self) -> bool
+        ensures { result ≡ is_filled_spec self.now }
+    {
+        !self.rows.is_empty()
+    }
 
     // The table of the expression and the line. Costs as many steps as the product of their lengths.
     pub fn fill(heap: Global, expression: &Expression<'_>, line: &str) -> Result<Table, AllocError>
@@ -39,5 +55,21 @@ impl Table {
         rows.push(below)?;
         rows.reverse();
         Ok(Table { rows })
+    }
+
+    // The same of any bytes. Those that are no legal expression have the row of no items alone.
+    pub fn fill_bytes(heap: Global, expression: &[u8], line: &str) -> Result<Table, AllocError>
+        ensures filled { IfOk result (λ t. is_filled_spec t ≡ true) }
+        ensures rows { IfOk result (λ t. Legal expression.now → Filled expression.now line.now t) }
+    {
+        match Expression::new(expression) {
+            Ok(expression) => Table::fill(heap, &expression, line),
+            Err(_) => {
+                let last = last_row(heap, line)?;
+                Ok(Table {
+                    rows: vec![in heap; last]?,
+                })
+            }
+        }
     }
 }

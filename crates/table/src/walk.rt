@@ -1,4 +1,10 @@
 // The preferred way through a filled table.
+ghost use Rattle.std.specs.Prelude.{ℕ, List};
+ghost use Rattle.grammar.specs.Grammar as g;
+ghost use Rattle.ways.specs.Match.{run};
+ghost use Rattle.ways.specs.Meaning.{leading};
+ghost use Rattle.ways.specs.Matched.{Matches};
+ghost use Rattle.ways.specs.Starts.{Begins};
 ghost use Rattle.table.specs.Tables.{Filled, RowsFrom};
 ghost use Rattle.table.specs.Walks.{Follows};
 
@@ -48,6 +54,17 @@ impl Table {
         let last = self.rows.len().saturating_sub(1);
         &self.rows[start.nth.min(last)..]
     }
+
+    // The match that begins at the place `from` of the line, of the alternative that begins at `start`.
+    pub fn walk(&self, start: &Start<'_>, from: &Cursor<'_>) -> Option<Matched>
+        ensures { (e : List ℕ) (is : List g.Item) → Filled e from.now.line.now self.now → Begins e start.now is → Matches (leading is) from.now.place (run from.now.line.now (leading is) from.now.place) result }
+    {
+        let rows = self.rows_from(start);
+        match rows.first() {
+            Some(row) if is_set(row, from.place) => Some(follow(rows, &start.items, from)),
+            _ => None,
+        }
+    }
 }
 
 impl FindWay for Table {
@@ -60,10 +77,6 @@ impl FindWay for Table {
         start: &Start<'_>,
         from: &Cursor<'_>,
     ) -> Result<Option<Matched>, Infallible> {
-        let rows = self.rows_from(start);
-        match rows.first() {
-            Some(row) if is_set(row, from.place) => Ok(Some(follow(rows, &start.items, from))),
-            _ => Ok(None),
-        }
+        Ok(self.walk(start, from))
     }
 }

@@ -1,14 +1,32 @@
 -- What the tries of an alternative come to. Assumes nothing.
-use Rattle.std.specs.Prelude.{◌≡◌, ℕ, ◌+◌, ◌≤◌, List, ◌∷◌, ◌++◌, length, reverse, Some, None, Option}
+use Rattle.std.specs.Prelude.{◌≡◌, ℕ, ◌+◌, ◌≤◌, Bool, false, List, ◌∷◌, ◌++◌, length, reverse, Some, None, Option, Result, Ok, Err, ◌==◌}
 use Rattle.grammar.specs.declared.items.Piece.{Piece}
 use Rattle.grammar.specs.declared.items.Times.{Times}
+use Rattle.grammar.specs.declared.items.Item.{Item}
+use Rattle.grammar.specs.declared.items.Item.TheVariants as i
 use Rattle.grammar.specs.declared.items.Items.{Items}
 use Rattle.grammar.specs.Grammar as g
 use Rattle.grammar.specs.Items.{IsPiece, times_of, Written}
 use Rattle.ways.specs.declared.cursor.Cursor.{Cursor}
-use Rattle.ways.specs.Match.{Way, run}
+use Rattle.ways.specs.Match.{Way, at_end, run}
 use Rattle.ways.specs.Meaning.{leading, end_of}
 use Rattle.ways.specs.Matched.{brackets}
+
+-- an item that takes nothing holds at p
+abbrev pub holds_at : Item → List ℕ → ℕ → Bool
+holds_at (i.Take x t) l p = false
+holds_at i.Start l p = p == 0
+holds_at i.End l p = at_end l p
+holds_at i.Never l p = false
+holds_at i.Open l p = false
+holds_at i.Close l p = false
+holds_at i.Bar l p = false
+
+-- the places ms that were noted stay, and others are noted behind them only where a match was found
+abbrev pub NotedBehind : {S : Type 0} → List ℕ → Result (Option ℕ) S → List ℕ → Type 0
+NotedBehind ms (Ok None) ns = ns ≡ ms
+NotedBehind ms (Ok (Some q)) ns = (ps : List ℕ) × (ns ≡ ms ++ ps)
+NotedBehind ms (Err stop) ns = ns ≡ ms
 
 -- r is where the items js end from p on, whose first way is o; behind the places in ms those of their brackets are noted, the
 -- last one first, as long as there is room for 30

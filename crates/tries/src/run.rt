@@ -1,15 +1,32 @@
 // The match of one alternative by trying: each repeat takes as many characters as it can, and gives back one at a time.
 //
 // Nothing is remembered, so that the work can grow beyond all bounds; whoever cannot have that sets a limit.
-ghost use Rattle.std.specs.Prelude.{◌≡◌, [], IfOk};
-ghost use Rattle.tries.specs.Tried.{Tried, TriedTimes, TriedMost};
+ghost use Rattle.std.specs.Prelude.{◌≡◌, ℕ, List, [], IfOk};
+ghost use Rattle.grammar.specs.Grammar as g;
+ghost use Rattle.ways.specs.Match.{run as run_spec};
+ghost use Rattle.ways.specs.Meaning.{leading};
+ghost use Rattle.ways.specs.Matched.{Matches, Keeps};
+ghost use Rattle.ways.specs.Starts.{Begins};
+ghost use Rattle.tries.specs.Tried.{Tried, TriedTimes, TriedMost, NotedBehind, holds_at};
 
 use crate::limit::Limit;
 use arrayvec::ArrayVec;
 use grammar::items::{Item, Items, Piece, Times};
 use ways::cursor::Cursor;
 use ways::find::{FindWay, Matched};
+use ways::line_end::at_end;
 use ways::start::Start;
+
+// Whether an item that takes nothing holds at the place.
+pub fn holds(item: Item<'_>, line: &[u8], place: usize) -> bool
+    ensures { result ≡ holds_at item.entry line.now place }
+{
+    match item {
+        Item::Start => place == 0,
+        Item::End => at_end(line, place),
+        _ => false,
+    }
+}
 
 // The tries, and where the brackets stand on the way that was found, the last one first.
 #[derive(Drop)]
@@ -34,15 +51,18 @@ impl<L: Limit> Tries<L> {
         }
     }
 
-    // Where the items end, up to the next bar, from the place on, if they match.
+    // Where the items end, up to the next bar, from the place on, if they match. They may begin at any item of an alternative,
+    // inside brackets too. The brackets that were noted before stay noted.
     #[cycle(run_run_most_run_times)]
-    fn run(
+    pub fn run(
         &mut self,
         items: &Items<'_>,
         from: &Cursor<'_>,
         depth: L::Depth,
     ) -> Result<Option<usize>, L::Stop>
-        ensures { IfOk result (λ r. Tried items.now from.now self.old.brackets.items r self.new.brackets.items) }
+        ensures tried { IfOk result (λ r. Tried items.now from.now self.old.brackets.items r self.new.brackets.items) }
+        ensures noted { NotedBehind self.old.brackets.items result self.new.brackets.items }
+        ensures depth { self.new.depth ≡ self.old.depth }
     {
         let Some((item, items)) = items.split_first() else {
             return Ok(Some(from.place));
@@ -76,7 +96,9 @@ impl<L: Limit> Tries<L> {
         from: &Cursor<'_>,
         depth: L::Depth,
     ) -> Result<Option<usize>, L::Stop>
-        ensures { IfOk result (λ r. TriedTimes piece.now times items.now from.now self.old.brackets.items r self.new.brackets.items) }
+        ensures tried { IfOk result (λ r. TriedTimes piece.now times items.now from.now self.old.brackets.items r self.new.brackets.items) }
+        ensures noted { NotedBehind self.old.brackets.items result self.new.brackets.items }
+        ensures depth { self.new.depth ≡ self.old.depth }
     {
         match (times, from.step(piece)) {
             (Times::Once, Some(next)) => self.run(items, &next, depth),
@@ -101,7 +123,9 @@ impl<L: Limit> Tries<L> {
         from: &Cursor<'_>,
         depth: L::Depth,
     ) -> Result<Option<usize>, L::Stop>
-        ensures { IfOk result (λ r. TriedMost piece.now items.now from.now self.old.brackets.items r self.new.brackets.items) }
+        ensures tried { IfOk result (λ r. TriedMost piece.now items.now from.now self.old.brackets.items r self.new.brackets.items) }
+        ensures noted { NotedBehind self.old.brackets.items result self.new.brackets.items }
+        ensures depth { self.new.depth ≡ self.old.depth }
     {
         let depth = self.limit.deeper(depth)?;
         if let Some(next) = from.step(piece) {
@@ -118,11 +142,12 @@ impl<L: Limit> FindWay for Tries<L> {
 
     ghost serves = { λ _ _ _. Unit {0} };
 
-    fn find_way(
-        &mut self,
-        start: &Start<'_>,
-        from: &Cursor<'_>,
-    ) -> Result<Option<Matched>, L::Stop> {
+    // The same tries may be asked again and again: how deep they may nest stays.
+    fn find_way(&mut self, start: &Start<'_>, from: &Cursor<'_>) -> Result<Option<Matched>, L::Stop>
+        ensures found { IfOk result (λ r. (e : List ℕ) (is : List g.Item) → Unit {0} → Begins e start.now is → Matches (leading is) from.now.place (run_spec from.now.line.now (leading is) from.now.place) r) }
+        ensures same { Keeps (λ _ _ _. Unit {0}) self.old self.new }
+        ensures depth { self.new.depth ≡ self.old.depth }
+    {
         self.brackets.clear();
         let Some(end) = self.run(&start.items, from, self.depth)? else {
             return Ok(None);

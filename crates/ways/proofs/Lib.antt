@@ -2,3 +2,4 @@ pub mod Prefers
 pub mod Edges
 pub mod Reading
 pub mod Starts
+pub mod Refused

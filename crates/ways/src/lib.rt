@@ -5,11 +5,12 @@
 // characters as it can, and gives back one at a time (specs/Match), is the one that goes further at the first item at which two of
 // them differ (proofs/Prefers). specs/Groups has where the groups of a match lie, and specs/Meaning what a search answers.
 //
-// `cursor` is a place of a line and one step from it, `start` where the alternatives begin, and `find` what the match of one
-// alternative is, however it is found.
+// `cursor` is a place of a line and one step from it, `line_end` where any bytes end, `start` where the alternatives begin, and
+// `find` what the match of one alternative is, however it is found.
 #![tactic(auto)]
 
 pub mod cursor;
 pub mod find;
+pub mod line_end;
 pub mod start;
 mod taking;

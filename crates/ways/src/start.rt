@@ -22,16 +22,23 @@ pub struct Start<'a> {
 impl<'a> Start<'a> {
     ghost use Rattle.ways.specs.Starts.{Begins, After};
 
+    // The begin of these items, with none before it.
+    pub fn at_begin(items: Items<'a>) -> Start<'a>
+        ensures { (result.items ≡ items.entry) × (result.nth ≡ 0) × (result.opened ≡ 0) }
+    {
+        Start {
+            items,
+            nth: 0,
+            opened: 0,
+        }
+    }
+
     // The begin of the first alternative.
     pub fn first(expression: &Expression<'a>) -> Start<'a>
         ensures whole { (result.items.rest.now ≡ expression.now.text.now) × (result.nth ≡ 0) × (result.opened ≡ 0) }
         ensures begins { Begins expression.now.text.now result (items_of expression.now.text.now) }
     {
-        Start {
-            items: expression.items(),
-            nth: 0,
-            opened: 0,
-        }
+        Start::at_begin(expression.items())
     }
 
     // The begin of the next alternative, if there is one. Reads this one to its end.

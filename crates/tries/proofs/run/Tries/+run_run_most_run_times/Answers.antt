@@ -4,19 +4,19 @@ use Rattle.tries.proofs.Tries.{ends, takes, bars, bracket_noted, bracket_left, s
 use Rattle.tries.proofs.run.Tries.+run_run_most_run_times.Goals as goal
 use Rattle.tries.proofs.run.Tries.+run_run_most_run_times.Goals.{run-then-is_some, run-else-is_some}
 
-pub run-returns-in_default : goal.run-returns-in_default
-run-returns-in_default g t c = ends c.in_default.ensures.reads
+pub run-returns-in_default-clause-tried : goal.run-returns-in_default-clause-tried
+run-returns-in_default-clause-tried g t c = ends c.in_default.ensures.reads
 
-pub run-returns-in-Take : goal.run-returns-in-Take
-run-returns-in-Take g t c =
-    IfOk-weaker _ _ _ (λ r tried. takes c.in-Some.ensures.reads tried c.in-Take.is) c.run_times.ensures
+pub run-returns-in-Take-clause-tried : goal.run-returns-in-Take-clause-tried
+run-returns-in-Take-clause-tried g t c =
+    IfOk-weaker _ _ _ (λ r tried. takes c.in-Some.ensures.reads tried c.in-Take.is) c.run_times.ensures.tried
 
-pub run-returns-in-Bar : goal.run-returns-in-Bar
-run-returns-in-Bar g t c = bars c.in-Some.ensures.reads c.in-Bar.is
+pub run-returns-in-Bar-clause-tried : goal.run-returns-in-Bar-clause-tried
+run-returns-in-Bar-clause-tried g t c = bars c.in-Some.ensures.reads c.in-Bar.is
 
-pub run-returns-after-is_some : goal.run-returns-after-is_some
-run-returns-after-is_some g t c =
-    let tried = c.in_ok-end-in-Open.ensures in
+pub run-returns-after-is_some-clause-tried : goal.run-returns-after-is_some-clause-tried
+run-returns-after-is_some-clause-tried g t c =
+    let tried = c.in_ok-end-in-Open.ensures.tried in
     let reads = c.in-Some.ensures.reads in
     let ns = c.if-is_some.self.brackets.items in
     elim c.if-is_some.branch [
@@ -26,13 +26,13 @@ run-returns-after-is_some g t c =
       | run-else-is_some w ↦ bracket_left reads {ns = ns} tried (cc) (cc) c.in-Open.is
     ]
 
-pub run-returns-in-Start : goal.run-returns-in-Start
-run-returns-in-Start g t c =
-    IfOk-weaker _ _ _ (λ r tried. starts c.in-Some.ensures.reads tried c.in-Start.is (cc)) c.run-in-Start.ensures
+pub run-returns-in-Start-clause-tried : goal.run-returns-in-Start-clause-tried
+run-returns-in-Start-clause-tried g t c =
+    IfOk-weaker _ _ _ (λ r tried. starts c.in-Some.ensures.reads tried c.in-Start.is (cc)) c.run-in-Start.ensures.tried
 
-pub run-returns-in-End : goal.run-returns-in-End
-run-returns-in-End g t c =
-    IfOk-weaker _ _ _ (λ r tried. ends_line c.in-Some.ensures.reads tried c.in-End.is (cc)) c.run-in-End.ensures
+pub run-returns-in-End-clause-tried : goal.run-returns-in-End-clause-tried
+run-returns-in-End-clause-tried g t c =
+    IfOk-weaker _ _ _ (λ r tried. ends_line c.in-Some.ensures.reads tried c.in-End.is (cc)) c.run-in-End.ensures.tried
 
-pub run-returns-in-Start-2 : goal.run-returns-in-Start-2
-run-returns-in-Start-2 g t c = not_here c.in-Some.ensures.reads (search rules)
+pub run-returns-in-Start-2-clause-tried : goal.run-returns-in-Start-2-clause-tried
+run-returns-in-Start-2-clause-tried g t c = not_here c.in-Some.ensures.reads (search rules)
