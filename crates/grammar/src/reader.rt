@@ -1,5 +1,5 @@
 // How far an expression has been read.
-ghost use Rattle.std.specs.Prelude.{◌≡◌};
+ghost use Rattle.std.specs.Prelude.{◌≡◌, Some as Just};
 ghost use Rattle.grammar.specs.Bytes.{kind_of, inside_of, escaped_of};
 ghost use Rattle.grammar.specs.Reader.{next as next_of, done as done_of};
 
@@ -73,10 +73,10 @@ impl State {
     }
 
     // Between items: a repeat has nothing to repeat.
-    fn outside(self, b: u8) -> Option<State>
-        ensures { result ≡ outside self (kind_of b) }
+    fn outside(self, kind: Kind) -> Option<State>
+        ensures { result ≡ outside self (Just kind) }
     {
-        match kind_of(b)? {
+        match kind {
             Kind::Bare | Kind::Dot => self.to(Mode::Taken),
             Kind::Lead(owed) => self.to(Mode::Owing(owed)),
             Kind::Bar if self.depth == 0 => self.to(Mode::Plain),
@@ -90,30 +90,30 @@ impl State {
     }
 
     // Behind a piece: its repeat, or what stands between items.
-    fn behind_piece(self, b: u8) -> Option<State>
-        ensures { result ≡ behind_piece self (kind_of b) }
+    fn behind_piece(self, kind: Kind) -> Option<State>
+        ensures { result ≡ behind_piece self (Just kind) }
     {
-        match kind_of(b)? {
+        match kind {
             Kind::Repeat => self.to(Mode::Plain),
-            _ => self.outside(b),
+            other => self.outside(other),
         }
     }
 
     // The first member of a class: no class is empty.
-    fn first(self, b: u8) -> Option<State>
-        ensures { result ≡ first self b (inside_of b) }
+    fn first(self, b: u8, inside: Inside) -> Option<State>
+        ensures { result ≡ first self b (Just inside) }
     {
-        match inside_of(b)? {
+        match inside {
             Inside::Shut => None,
-            _ => self.within(b),
+            other => self.within(b, other),
         }
     }
 
     // After a member that begins no range.
-    fn within(self, b: u8) -> Option<State>
-        ensures { result ≡ within self b (inside_of b) }
+    fn within(self, b: u8, inside: Inside) -> Option<State>
+        ensures { result ≡ within self b (Just inside) }
     {
-        match inside_of(b)? {
+        match inside {
             Inside::Bare => self.to(Mode::ClassLast(b)),
             Inside::Backslash => self.to(Mode::ClassEscape),
             Inside::Shut => self.to(Mode::Taken),
@@ -122,12 +122,12 @@ impl State {
     }
 
     // After the character `low`. No ASCII character is above 127, so no range begins with it.
-    fn after_last(self, low: u8, b: u8) -> Option<State>
-        ensures { result ≡ last self low b (inside_of b) }
+    fn after_last(self, low: u8, b: u8, inside: Inside) -> Option<State>
+        ensures { result ≡ last self low b (Just inside) }
     {
-        match inside_of(b)? {
+        match inside {
             Inside::Dash if low < 127 => self.to(Mode::Range(low)),
-            _ => self.within(b),
+            other => self.within(b, other),
         }
     }
 
@@ -191,14 +191,14 @@ impl Reader for State {
 
     fn step(self, b: u8) -> Option<State> {
         match self.mode {
-            Mode::Plain => self.outside(b),
-            Mode::Taken => self.behind_piece(b),
+            Mode::Plain => self.outside(kind_of(b)?),
+            Mode::Taken => self.behind_piece(kind_of(b)?),
             Mode::Escape => self.escape(b),
             Mode::Owing(owed) => self.owing(owed, b),
             Mode::ClassOpen if b == b'^' => self.to(Mode::ClassFirst),
-            Mode::ClassOpen | Mode::ClassFirst => self.first(b),
-            Mode::Class => self.within(b),
-            Mode::ClassLast(low) => self.after_last(low, b),
+            Mode::ClassOpen | Mode::ClassFirst => self.first(b, inside_of(b)?),
+            Mode::Class => self.within(b, inside_of(b)?),
+            Mode::ClassLast(low) => self.after_last(low, b, inside_of(b)?),
             Mode::ClassEscape => self.class_escape(b),
             Mode::Range(low) => self.upper(low, b),
             Mode::RangeEscape(low) => self.range_escape(low, b),
