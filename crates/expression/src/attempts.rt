@@ -18,8 +18,11 @@ pub(crate) fn match_at<W: FindWay>(
     ensures same { Keeps W.serves way.old way.new }
 {
     for start in alternatives {
-        if let Some(matched) = way.find_way(&start, from)? {
-            return Ok(Some(region(&start, from.place, &matched)));
+        // a match is large: where there is none, none is moved
+        match way.find_way(&start, from) {
+            Ok(None) => {}
+            Ok(Some(matched)) => return Ok(Some(region(&start, from.place, &matched))),
+            Err(stop) => return Err(stop),
         }
     }
     Ok(None)

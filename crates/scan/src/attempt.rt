@@ -45,8 +45,11 @@ pub fn first_from<E, F: FnMut(usize) -> Result<Option<Region>, E>>(
     }
     for here in place..=line.len() {
         if is_edge(line, here) {
-            if let Some(region) = attempt(here)? {
-                return Ok(Some(region));
+            // a region is large: at a place where nothing is found none is moved
+            match attempt(here) {
+                Ok(None) => {}
+                Ok(Some(region)) => return Ok(Some(region)),
+                Err(failure) => return Err(failure),
             }
         }
     }

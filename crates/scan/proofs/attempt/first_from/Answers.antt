@@ -1,7 +1,6 @@
 use Rattle.std.proofs.Common.{sym, ◌∙◌, refl, arith}
-use Rattle.std.proofs.lemmas.Result.{err_from_is_err_and}
 use Rattle.scan.proofs.Turns.{may_try, passes_by, passes, finds, breaks, ends}
-use Rattle.scan.proofs.attempt.first_from.Goals.{then-is_edge+in_ok-region+in_default, else-is_edge, else-loop-here-test, then-loop-here-test+else-here-here-end}
+use Rattle.scan.proofs.attempt.first_from.Goals.{then-is_edge+in-Ok-None, else-is_edge, else-loop-here-test, then-loop-here-test+else-here-here-end}
 use Rattle.scan.proofs.attempt.first_from.Goals as goal
 
 pub loop-here-init : goal.loop-here-init
@@ -10,25 +9,23 @@ loop-here-init g c = record { takes = c.requires; found = λ at fails answers. (
 pub attempt-requires : goal.attempt-requires
 attempt-requires g c = may_try g.F.FnMut c.args.line.now c.loop-here.attempt c.loop-here.here c.loop-here.invariant.takes (c.is_edge-in-loop-here.ensures.decides.0 c.if-is_edge.true)
 
-pub returns-in-Some : goal.returns-in-Some
-returns-in-Some g c =
+pub returns-in-Ok-Some : goal.returns-in-Ok-Some
+returns-in-Ok-Some g c =
     finds g.F.FnMut c.args.line.now c.args.place c.loop-here.here c.args.attempt c.loop-here.attempt c.loop-here.invariant c.loop-here-test.true
     (sym c.is_edge.ensures.value ∙ c.if-not-is_edge.false) (sym c.is_edge-in-loop-here.ensures.value ∙ c.if-is_edge.true)
-    c.attempt.new.self c.attempt.result c.in_ok-region.field-0 c.in-Some.region c.attempt.ensures c.in_ok-region.was c.in-Some.is
+    c.attempt.new.self c.attempt.result c.in-Ok-Some.field-0 c.in-Ok-Some.region c.attempt.ensures c.in-Ok-Some.is c.in-Ok-Some.field-0-is
 
-pub returns-in_err-region : goal.returns-in_err-region
-returns-in_err-region g c = λ at fails answers.
-    let out = err_from_is_err_and c.from_residual.result c.from_residual.ensures.1 in
-    rw (out.1, out.2)
-    (breaks g.F.FnMut c.args.line.now c.args.place c.loop-here.here c.args.attempt c.loop-here.attempt c.loop-here.invariant c.loop-here-test.true
-    (sym c.is_edge-in-loop-here.ensures.value ∙ c.if-is_edge.true) c.attempt.new.self c.attempt.result c.in_err-region.field-0.0 c.attempt.ensures c.in_err-region.was at fails answers)
+pub returns-in-Err : goal.returns-in-Err
+returns-in-Err g c =
+    breaks g.F.FnMut c.args.line.now c.args.place c.loop-here.here c.args.attempt c.loop-here.attempt c.loop-here.invariant c.loop-here-test.true
+    (sym c.is_edge-in-loop-here.ensures.value ∙ c.if-is_edge.true) c.attempt.new.self c.attempt.result c.in-Err.failure c.attempt.ensures c.in-Err.is
 
 pub loop-here-preserved : goal.loop-here-preserved
 loop-here-preserved g c =
     elim c.if-is_edge.branch [
-      | then-is_edge+in_ok-region+in_default w ↦
+      | then-is_edge+in-Ok-None w ↦
           passes g.F.FnMut c.args.line.now c.args.place c.loop-here.here c.args.attempt c.loop-here.attempt c.loop-here.invariant c.loop-here-test.true
-          (sym c.is_edge-in-loop-here.ensures.value ∙ w.if-is_edge.true) w.attempt.new.self w.attempt.result w.in_ok-region.field-0 w.attempt.ensures w.in_ok-region.was w.in_default.is _ w.attempt-is
+          (sym c.is_edge-in-loop-here.ensures.value ∙ w.if-is_edge.true) w.attempt.new.self w.attempt.result w.in-Ok-None.field-0 w.attempt.ensures w.in-Ok-None.is w.in-Ok-None.field-0-is _ w.attempt-is
       | else-is_edge w ↦
           passes_by g.F.FnMut c.args.line.now c.args.place c.loop-here.here c.args.attempt c.loop-here.attempt c.loop-here.invariant c.loop-here-test.true
           (sym c.is_edge-in-loop-here.ensures.value ∙ w.if-is_edge.false) _ w.attempt-is
@@ -43,10 +40,10 @@ returns g c =
       | else-loop-here-test w ↦ absurd (let within = first.0 in omega arith)
       | then-loop-here-test+else-here-here-end w ↦
           elim w.if-is_edge.branch [
-            | then-is_edge+in_ok-region+in_default w' ↦
+            | then-is_edge+in-Ok-None w' ↦
                 ends g.F.FnMut line c.args.place c.loop-here.here c.args.attempt _ from
                 (passes g.F.FnMut line c.args.place c.loop-here.here c.args.attempt c.loop-here.attempt c.loop-here.invariant w.loop-here-test.true
-                (sym w.is_edge-in-loop-here.ensures.value ∙ w'.if-is_edge.true) w'.attempt.new.self w'.attempt.result w'.in_ok-region.field-0 w'.attempt.ensures w'.in_ok-region.was w'.in_default.is _ w'.attempt-is) (omega arith)
+                (sym w.is_edge-in-loop-here.ensures.value ∙ w'.if-is_edge.true) w'.attempt.new.self w'.attempt.result w'.in-Ok-None.field-0 w'.attempt.ensures w'.in-Ok-None.is w'.in-Ok-None.field-0-is _ w'.attempt-is) (omega arith)
             | else-is_edge w' ↦
                 ends g.F.FnMut line c.args.place c.loop-here.here c.args.attempt _ from
                 (passes_by g.F.FnMut line c.args.place c.loop-here.here c.args.attempt c.loop-here.attempt c.loop-here.invariant w.loop-here-test.true
