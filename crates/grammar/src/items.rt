@@ -51,6 +51,7 @@ pub struct Items<'a> {
 }
 
 // What is read behind a piece: how often it is taken.
+#[inline(always)]
 fn repeated<'a>(piece: Piece<'a>, rest: &'a str) -> (Item<'a>, Items<'a>)
     ensures repeats { Repeats piece.entry rest.now result }
     ensures within { length result.1.rest.now ≤ length rest.now }
@@ -85,6 +86,7 @@ fn escaped(rest: &str) -> Option<(Item<'_>, Items<'_>)>
 
 impl<'a> Items<'a> {
     // The first item and the others, if one is left. Costs as many steps as the item has bytes.
+    #[inline(always)]
     pub fn split_first(&self) -> Option<(Item<'a>, Items<'a>)>
         ensures reads { Reads self.now.rest.now result }
         ensures onward { IfSome result (λ r. length r.1.rest.now < length self.now.rest.now) }

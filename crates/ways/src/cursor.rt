@@ -51,6 +51,7 @@ impl<'a> Cursor<'a> {
     }
 
     // The place behind the next character, if the piece takes that.
+    #[inline(always)]
     pub fn step(&self, piece: &Piece<'_>) -> Option<Cursor<'a>>
         ensures steps { Steps piece.now self.now.line.now self.now.place result }
         ensures on { IfSome result (λ c. (c.line.now ≡ self.now.line.now) × (self.now.place < c.place)) }

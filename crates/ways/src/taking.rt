@@ -3,6 +3,7 @@ ghost use Rattle.ways.specs.Pieces.{Accepts};
 
 use grammar::items::Piece;
 
+#[inline(always)]
 pub(crate) fn takes(piece: &Piece<'_>, c: char) -> bool
     ensures { Accepts piece.now c result }
 {
