@@ -17,7 +17,7 @@ fn worked_examples_stand() -> bool
 
 #[cfg(test)]
 mod tests {
-    use matcher::answer::{Answer, Illegal, Region};
+    use matcher::answer::{Answer, Illegal, Region, Span};
     use matcher::search::Matcher;
     use word::WordMatcher;
 
@@ -98,12 +98,25 @@ mod tests {
         WordMatcher.search(expression, line, place)
     }
 
+    // Group 0 is the span, and no other group is present.
+    fn spans(answer: &Answer, span: Span) -> bool {
+        let Ok(Some(region)) = answer else {
+            return false;
+        };
+        let mut alone = true;
+        for k in 1..17 {
+            alone = alone && region.group(k).is_none();
+        }
+        alone && region.group(0) == Some(span)
+    }
+
     #[test]
     fn found_where_a_word_counts(rt: HostRuntime) {
         for (expression, line, place, begin, end) in FOUND {
-            // group 0 alone is present
             let region = Region::spanning(begin, end);
-            assert_eq!(rt; answer(expression, line, place), Ok(Some(region)));
+            let found = answer(expression, line, place);
+            assert!(rt; spans(&found, Span { begin, end }));
+            assert_eq!(rt; found, Ok(Some(region)));
         }
     }
 
