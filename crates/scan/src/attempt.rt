@@ -72,9 +72,6 @@ pub fn scan<T: Attempt>(attempts: &T, expression: &[u8], line: &[u8], place: usi
 {
     match std::str::from_utf8(line) {
         Ok(text) => scan_text(attempts, expression, text, place),
-        Err(_) => {
-            attempts.refuses(expression)?;
-            Ok(None)
-        }
+        Err(_) => attempts.refuses(expression).and(Ok(None)),
     }
 }
