@@ -10,4 +10,5 @@ pub mod First
 pub mod Judging
 pub mod Text
 pub mod Listed
+pub mod Places
 pub mod Folded

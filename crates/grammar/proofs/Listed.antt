@@ -127,11 +127,11 @@ plain_head (b ∷ bs) h =
 pub unseen : (text : List ℕ) → ((rest : List ℕ) → text ≡ encode 94 ++ rest → ⊥) → Seen text false text
 unseen text h = let e = plain_head text h in (sym e, sym (cond-false (complemented text) (drop 1 text) text e), refl)
 
-turn_read : (turn : Bool) (m : Member) (bs : List ℕ) → GoodMember m → complemented (caret turn (member m bs)) ≡ turn
+pub turn_read : (turn : Bool) (m : Member) (bs : List ℕ) → GoodMember m → complemented (caret turn (member m bs)) ≡ turn
 turn_read true m bs h = refl
 turn_read false m bs h = head_no_caret m bs h
 
-members_from : (turn : Bool) (m : Member) (bs : List ℕ) → GoodMember m → members_of (caret turn (member m bs)) ≡ member m bs
+pub members_from : (turn : Bool) (m : Member) (bs : List ℕ) → GoodMember m → members_of (caret turn (member m bs)) ≡ member m bs
 members_from true m bs h = refl
 members_from false m bs h = cond-false (complemented (member m bs)) (drop 1 (member m bs)) (member m bs) (head_no_caret m bs h)
 

@@ -146,7 +146,7 @@ digits4 c q r e f = omega arith
 led_read : (x n : ℕ) (bs : List ℕ) → Leads x n → part_at (x ∷ bs) ≡ timed (wide (wide_at n x bs)) (drop (n + 1) bs)
 led_read x n bs l = ap (λ q. part q x bs) l.1 ∙ ap (λ (m : ℕ). timed (wide (wide_at m x bs)) (drop (m + 1) bs)) l.2
 
-wide_read : (c : ℕ) → 128 ≤ c → scalar c ≡ true → (bs : List ℕ) → part_at (encode c ++ bs) ≡ timed (wide c) bs
+pub wide_read : (c : ℕ) → 128 ≤ c → scalar c ≡ true → (bs : List ℕ) → part_at (encode c ++ bs) ≡ timed (wide c) bs
 wide_read c a s bs = ⊎_elim
     (λ b.
     let x : ℕ = 192 + c / 64 in

@@ -4,4 +4,5 @@ pub mod Reader
 pub mod Items
 pub mod Parse
 pub mod Classes
+pub mod Places
 pub mod Worked

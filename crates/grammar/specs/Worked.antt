@@ -5,6 +5,9 @@ use Rattle.grammar.specs.Grammar.{plain, escaped, one, range, every, char, wide,
 use Rattle.grammar.specs.Reader.{refusal}
 use Rattle.grammar.specs.Parse.{part_at, items}
 use Rattle.grammar.specs.Classes.{class_takes}
+use Rattle.grammar.specs.declared.items.Times.TheVariants as t
+use Rattle.grammar.specs.Places as s
+use Rattle.grammar.specs.Places.{item_of}
 
 -- where expressions are refused
 abbrev pub Places : Type 0
@@ -49,6 +52,21 @@ Parts =
     × (part_at (226 ∷ 130 ∷ 172 ∷ 63 ∷ 97 ∷ []) ≡ (takes (wide 8364) maybe, codes "a"))
     × (part_at (codes "\\1a") ≡ (never 49, codes "a"))
     × (items (codes "[b-d\\s]|$") ≡ takes (class false (range (plain 98) (plain 100)) (every Spaces ∷ [])) once ∷ bar ∷ end ∷ [])
+
+-- what is read where bytes begin, of a legal expression or not
+abbrev pub Tokens : Type 0
+Tokens =
+    (item_of (codes "a*b") ≡ (s.take (s.char 97) t.Many, codes "b"))
+    × (item_of (codes "\\.b") ≡ (s.take (s.char 46) t.Once, codes "b"))
+    × (item_of (codes "\\d+") ≡ (s.take (s.set Digits) t.Some, []))
+    × (item_of (codes "[^\\]a]?$") ≡ (s.take (s.class true (codes "\\]a]?$")) t.Maybe, codes "$"))
+    × (item_of (codes "[a") ≡ (s.take (s.class false (codes "a")) t.Once, []))
+    × (item_of (226 ∷ 130 ∷ 172 ∷ 63 ∷ 97 ∷ []) ≡ (s.take (s.char 8364) t.Maybe, codes "a"))
+    × (item_of (226 ∷ 130 ∷ 97 ∷ 63 ∷ 97 ∷ []) ≡ (s.take (s.char 65533) t.Maybe, codes "a"))
+    × (item_of (codes "\\1a") ≡ (s.never, codes "a"))
+    × (item_of (codes "\\") ≡ (s.never, []))
+    × (item_of (codes "*a") ≡ (s.never, codes "a"))
+    × (item_of (255 ∷ 97 ∷ []) ≡ (s.never, codes "a"))
 
 -- which characters a class takes, from the bytes after `[`
 abbrev pub Memberships : Type 0

@@ -1,11 +1,13 @@
 // The items of an expression, read one at a time.
-ghost use Rattle.std.specs.Prelude.{◌<◌, ◌≤◌, ◌∷◌, length, IfSome};
+ghost use Rattle.std.specs.Prelude.{◌≡◌, ◌<◌, ◌≤◌, ◌∷◌, false, length, drop, slice_index, IfSome};
 ghost use Rattle.grammar.specs.Parse.{Repeats};
+ghost use Rattle.grammar.specs.Places.{shape, token, whole as whole_by, wide_of as wide_of_spec, repeated_as, escaped_as, item_of, ReadsAt};
 ghost use Rattle.std.specs.Iterator.{at_most};
-ghost use Rattle.grammar.specs.Items.{Reads, Yields};
+ghost use Rattle.grammar.specs.Items.{shut_of, Reads, Yields};
 
-use crate::bytes::set_of;
+use crate::bytes::{Escaped, Kind, escaped_of, kind_of, set_of};
 use crate::class::Class;
+use chars::leads::Owed;
 use chars::sets::Set;
 
 // What takes one character.
@@ -123,4 +125,129 @@ impl<'a> Iterator for Items<'a> {
         *self = others;
         Some(first)
     }
+}
+
+// The byte at `k`, and 0 past the end.
+fn byte_at(bytes: &[u8], k: usize) -> u8
+    ensures { result ≡ slice_index bytes.now k }
+{
+    bytes.get(k).copied().unwrap_or(0)
+}
+
+// What stands from `k` on.
+fn bytes_from(bytes: &[u8], k: usize) -> &[u8]
+    ensures { result.now ≡ drop k bytes.now }
+{
+    bytes.get(k..).unwrap_or(&[])
+}
+
+// What follows the class, as `after_class`, of bytes that need not be text.
+fn past_class(members: &[u8]) -> &[u8]
+    ensures { result.now ≡ shut_of false members.now }
+{
+    let mut left = members;
+    while let [b, others @ ..] = left {
+        left = others;
+        match *b {
+            b']' => return left,
+            b'\\' => left = bytes_from(left, 1),
+            _ => {}
+        }
+    }
+    left
+}
+
+// Whether the bytes go on with all that a character owes.
+fn is_whole(owed: Owed, rest: &[u8]) -> bool
+    ensures { result ≡ whole_by owed rest.now }
+{
+    let next = 0x80..=0xbf;
+    owed.takes(byte_at(rest, 0))
+        && (owed.more < 1 || next.contains(&byte_at(rest, 1)))
+        && (owed.more < 2 || next.contains(&byte_at(rest, 2)))
+}
+
+// The character that begins with `b` and owes this; where its bytes are broken, the replacement character.
+fn wide_of(owed: Owed, b: u8, rest: &[u8]) -> char
+    ensures { result ≡ wide_of_spec owed b rest.now }
+{
+    let first = u32::from(b);
+    let second = u32::from(byte_at(rest, 0)).saturating_sub(0x80);
+    let third = u32::from(byte_at(rest, 1)).saturating_sub(0x80);
+    let fourth = u32::from(byte_at(rest, 2)).saturating_sub(0x80);
+    let value = match owed.more {
+        0 => first.saturating_sub(0xc0) * 0x40 + second,
+        1 => first.saturating_sub(0xe0) * 0x1000 + second * 0x40 + third,
+        _ => first.saturating_sub(0xf0) * 0x40000 + second * 0x1000 + third * 0x40 + fourth,
+    };
+    match char::from_u32(value) {
+        Some(c) if is_whole(owed, rest) => c,
+        _ => char::REPLACEMENT_CHARACTER,
+    }
+}
+
+// The piece, and how often it is taken, which the byte behind it says.
+fn repeated_at<'a>(piece: Piece<'a>, rest: &'a [u8]) -> (Item<'a>, &'a [u8])
+    ensures item { token result.0 ≡ (repeated_as (shape piece.entry) rest.now).0 }
+    ensures rest { result.1.now ≡ (repeated_as (shape piece.entry) rest.now).1 }
+{
+    let (times, rest) = match byte_at(rest, 0) {
+        b'?' => (Times::Maybe, bytes_from(rest, 1)),
+        b'*' => (Times::Many, bytes_from(rest, 1)),
+        b'+' => (Times::Some, bytes_from(rest, 1)),
+        _ => (Times::Once, rest),
+    };
+    (Item::Take(piece, times), rest)
+}
+
+// What stands behind a backslash.
+fn escaped_at(bytes: &[u8]) -> (Item<'_>, &[u8])
+    ensures item { token result.0 ≡ (escaped_as bytes.now).0 }
+    ensures rest { result.1.now ≡ (escaped_as bytes.now).1 }
+{
+    let b = byte_at(bytes, 0);
+    let rest = bytes_from(bytes, 1);
+    match escaped_of(b) {
+        Some(Escaped::Mark) => repeated_at(Piece::Char(char::from(b)), rest),
+        Some(Escaped::Set(set)) => repeated_at(Piece::Set(set), rest),
+        Some(Escaped::Digit) | None => (Item::Never, rest),
+    }
+}
+
+// The item that begins the bytes, and what follows it.
+fn first_of(bytes: &[u8]) -> (Item<'_>, &[u8])
+    ensures item { token result.0 ≡ (item_of bytes.now).0 }
+    ensures rest { result.1.now ≡ (item_of bytes.now).1 }
+{
+    let b = byte_at(bytes, 0);
+    let rest = bytes_from(bytes, 1);
+    match kind_of(b) {
+        Some(Kind::Bare) => repeated_at(Piece::Char(char::from(b)), rest),
+        Some(Kind::Lead(owed)) => {
+            let c = wide_of(owed, b, rest);
+            repeated_at(Piece::Char(c), bytes_from(rest, usize::from(owed.more) + 1))
+        }
+        Some(Kind::Bar) => (Item::Bar, rest),
+        Some(Kind::Open) => (Item::Open, rest),
+        Some(Kind::Close) => (Item::Close, rest),
+        Some(Kind::Start) => (Item::Start, rest),
+        Some(Kind::End) => (Item::End, rest),
+        Some(Kind::Dot) => repeated_at(Piece::Any, rest),
+        Some(Kind::Backslash) => escaped_at(rest),
+        Some(Kind::Bracket) => repeated_at(Piece::Class(Class::at(bytes, 0)), past_class(rest)),
+        Some(Kind::Repeat) | None => (Item::Never, rest),
+    }
+}
+
+// The item that begins at `i`, and where the next one begins. From the end on no item begins: a zero byte is read there, and the
+// place is the end. Costs as many steps as the item has bytes.
+pub fn item_at<'a>(expression: &'a [u8], i: usize) -> (Item<'a>, usize)
+    ensures within { result.1 ≤ length expression.now }
+    ensures onward { i < length expression.now → i < result.1 }
+    ensures item { token result.0 ≡ (item_of (drop i expression.now)).0 }
+    ensures rest { drop result.1 expression.now ≡ (item_of (drop i expression.now)).1 }
+    ensures reads { ReadsAt expression.now i result.0 result.1 }
+{
+    let (item, rest) = first_of(bytes_from(expression, i));
+    (item, expression.len() - rest.len())
 }

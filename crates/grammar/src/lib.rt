@@ -12,8 +12,8 @@
 //
 // specs/Grammar has the legal expressions by how they are written. `legality` says whether bytes are one of them and, if not,
 // how much of them some legal expression shares. `expression` keeps a legal one as text, since each is UTF-8; `items` reads one
-// item after the other from it, and `class` asks a class whether it takes a character. Nothing is allocated, and any length is
-// read.
+// item after the other from it, or one at a place of any bytes, and `class` asks a class whether it takes a character. Nothing is
+// allocated, and any length is read.
 #![tactic(auto)]
 
 mod bytes;
