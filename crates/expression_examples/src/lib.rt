@@ -9,6 +9,7 @@ mod tests {
     use matcher::answer::{Answer, Illegal, Span};
     use matcher::search::Matcher;
     use std::alloc::Global;
+    use table::fill::Table;
 
     // expression, line, place, and where the match begins and ends
     const FOUND: [(&[u8], &[u8], usize, usize, usize); 48] = [
@@ -258,5 +259,14 @@ mod tests {
                 Some((3, 200))
             )
         );
+    }
+
+    // A table of any bytes, of those that are no legal expression too.
+    #[test]
+    fn tables_of_any_bytes_are_filled(rt: HostRuntime) {
+        let expressions: [&[u8]; 4] = [b"", b"(a*)a$", b"(a", b"\xff"];
+        for expression in expressions {
+            assert!(rt; Table::fill_bytes(rt.alloc(), expression, "aab").is_ok());
+        }
     }
 }
