@@ -1,15 +1,13 @@
 -- A table grows by a row, for one item more at the front. Assumes nothing.
-use Rattle.std.proofs.Common.{◌≡◌, ℕ, zero, suc, ◌+◌, ◌-◌, ◌<◌, ◌≤◌, min, Bool, false, is_some, List, [], ◌∷◌, ◌++◌, length, get_or, take, drop, vec_items, Vec, Bor, Some, None, sym, refl, ap, ◌∙◌, subst, ⊎_elim, le_of_suc-le-suc, arith}
+use Rattle.std.proofs.Common.{◌≡◌, ℕ, zero, suc, ◌+◌, ◌-◌, ◌<◌, ◌≤◌, min, Bool, false, is_some, List, [], ◌∷◌, ◌++◌, length, get_or, take, drop, vec_items, Vec, Some, None, sym, refl, ap, ◌∙◌, subst, ⊎_elim, le_of_suc-le-suc, arith}
 use Rattle.std.specs.Str.{IsCharBoundary}
-use Rattle.std.specs.List.{AllZip, slice_get}
-use Rattle.std.specs.Iterator.{Yields as Comes}
-use mathlib.Core.List.{map, reverse}
-use Rattle.std.proofs.lemmas.List.{map-append, reverse-append, length-drop, drop-drop, drop_all, take_rest}
+use Rattle.std.specs.List.{slice_get}
+use mathlib.Core.List.{reverse}
+use Rattle.std.proofs.lemmas.List.{length-append, get_or_append_left, get_or_push, reverse-append, length-drop, drop-drop, drop_all, take_rest}
 use Rattle.std.proofs.lemmas.Bool.{cases_lt}
 use Rattle.grammar.specs.declared.items.Item.{Item}
-use Rattle.grammar.specs.declared.items.Items.{Items}
 use Rattle.grammar.specs.Grammar as g
-use Rattle.grammar.specs.Items.{IsItem, Written, Reads, Yields}
+use Rattle.grammar.specs.Items.{IsItem, Written}
 use Rattle.grammar.specs.Parse.{items, Spelled}
 use Rattle.grammar.specs.Reader.{refusal}
 use Rattle.grammar.proofs.Judging.{spelled}
@@ -17,17 +15,9 @@ use Rattle.ways.specs.declared.start.Start.{Start}
 use Rattle.ways.specs.Match.{run}
 use Rattle.ways.specs.Meaning.{leading}
 use Rattle.ways.specs.Starts.{Begins}
-use Rattle.ways.proofs.Reading.{first, none_written}
 use Rattle.table.specs.Cells.{Row, RowOn}
+use Rattle.table.specs.Places.{WrittenAt, FirstIs}
 use Rattle.table.specs.Tables.{row_at, RowsOf}
-
--- ===== the list of the items
--- those that come, up to the end, are those that are written
-pub listed : (xs : List Item) (s t u : Items) → Comes Yields s xs t → Yields t None u → (is : List g.Item) → Written s.rest.now is → AllZip IsItem xs is
-listed [] s t u same none is w = subst (AllZip IsItem []) (sym (none_written s.rest.now (subst (λ (k : Items). Reads k.rest.now None) (sym same) none) is w)) tt
-listed (x ∷ xs) s t u (j, step, more) none is w =
-    let f = first s.rest.now x j step is w in
-    subst (AllZip IsItem (x ∷ xs)) (sym f.split) (f.here, listed xs j t u more none f.tail f.behind)
 
 -- an expression that is not refused is written by its items
 pub legal_written : (e : List ℕ) → refusal e ≡ None → Written e (items e)
@@ -62,20 +52,53 @@ module _ {Z : Type 0} where
       each zero le = on y js is (h.each 0 (omega arith))
       each (suc n) le = h.each n (le_of_suc-le-suc le)
 
-  -- the rows of the last items, which are listed backwards; the first of them is below
-  pub record Growing (l : List ℕ) (done : List (Bor Item)) (below : Vec Bool Z) (rows : List (Vec Bool Z)) : Type 0 where
-    pub each : (js : List g.Item) → AllZip IsItem (reverse (map (λ y. y.now) done)) js → RowsOf l js (below ∷ reverse rows)
+  -- item is read before them, or nothing is
+  rows_on : (l : List ℕ) (item : Item) (js : List g.Item) (here below : Vec Bool Z) (rows : List (Vec Bool Z))
+      → FirstIs js (Some item) → RowOn item l (vec_items below) (vec_items here) → RowsOf l (drop 1 js) (below ∷ rows) → RowsOf l js (here ∷ below ∷ rows)
+  rows_on l item [] here below rows is on h = absurd is
+  rows_on l item (y ∷ js) here below rows is on h = rows_more l item y js here below rows is on h
 
-  pub growing_more : {l : List ℕ} {done : List (Bor Item)} {below : Vec Bool Z} {rows : List (Vec Bool Z)} → Growing l done below rows
-      → (item : Bor Item) (here : Vec Bool Z) → RowOn item.now l (vec_items below) (vec_items here) → Growing l (done ++ item ∷ []) here (rows ++ below ∷ [])
-  growing_more {l} {done} {below} {rows} h item here on = record {
-    each = λ js zip. subst (λ vs. RowsOf l js (here ∷ vs)) (sym (reverse-append rows (below ∷ [])))
-        (each js (subst (λ xs. AllZip IsItem xs js) (ap reverse (map-append (λ y. y.now) done (item ∷ [])) ∙ reverse-append (map (λ y. y.now) done) (item.now ∷ [])) zip));
-  }
-    where
-      each : (js : List g.Item) → AllZip IsItem (item.now ∷ reverse (map (λ y. y.now) done)) js → RowsOf l js (here ∷ below ∷ reverse rows)
-      each [] zip = absurd zip
-      each (y ∷ js) zip = rows_more l item.now y js here below (reverse rows) zip.0 on (h.each js zip.1)
+  rows_same : (l : List ℕ) (js : List g.Item) (rows : List (Vec Bool Z)) → FirstIs js None → RowsOf l (drop 1 js) rows → RowsOf l js rows
+  rows_same l [] rows is h = h
+  rows_same l (y ∷ js) rows is h = absurd is
+
+  -- the first items stand at the places, and the others, backwards, have the rows and below, which is that of all of them
+  pub record Growing (e l places : List ℕ) (below : Vec Bool Z) (rows : List (Vec Bool Z)) : Type 0 where
+    pub stand : (k : ℕ) → k < length places → WrittenAt e (get_or places k 0) (drop k (items e))
+    pub done : RowsOf l (drop (length places) (items e)) (below ∷ reverse rows)
+
+  -- the last place is taken, and what is read there is known
+  module _ {e l : List ℕ} {below : Vec Bool Z} {rows : List (Vec Bool Z)} {all : List ℕ} (h : Growing e l all below rows)
+      (places : List ℕ) (place : ℕ) (split : all ≡ places ++ place ∷ []) where
+    long : length all ≡ length places + 1
+    long = ap length split ∙ length-append places (place ∷ [])
+
+    fewer : (k : ℕ) → k < length places → WrittenAt e (get_or places k 0) (drop k (items e))
+    fewer k lt =
+        subst (λ (i : ℕ). WrittenAt e i (drop k (items e))) (ap (λ (ps : List ℕ). get_or ps k 0) split ∙ get_or_append_left places (place ∷ []) 0 k lt)
+        (h.stand k (omega (arith, long)))
+
+    here_written : WrittenAt e place (drop (length places) (items e))
+    here_written =
+        subst (λ (i : ℕ). WrittenAt e i (drop (length places) (items e))) (ap (λ (ps : List ℕ). get_or ps (length places) 0) split ∙ get_or_push places place 0 (length places) refl)
+        (h.stand (length places) (omega (arith, long)))
+
+    others : RowsOf l (drop 1 (drop (length places) (items e))) (below ∷ reverse rows)
+    others = subst (λ (js : List g.Item). RowsOf l js (below ∷ reverse rows)) (ap (λ (n : ℕ). drop n (items e)) long ∙ sym (drop-drop 1 (length places) (items e))) h.done
+
+    pub growing_more : (item : Item) (here : Vec Bool Z) → ((is : List g.Item) → WrittenAt e place is → FirstIs is (Some item)) → RowOn item l (vec_items below) (vec_items here)
+        → Growing e l places here (rows ++ below ∷ [])
+    growing_more item here is on = record {
+      stand = fewer;
+      done = subst (λ vs. RowsOf l (drop (length places) (items e)) (here ∷ vs)) (sym (reverse-append rows (below ∷ [])))
+          (rows_on l item (drop (length places) (items e)) here below (reverse rows) (is (drop (length places) (items e)) here_written) on others);
+    }
+
+    pub growing_same : ((is : List g.Item) → WrittenAt e place is → FirstIs is None) → Growing e l places below rows
+    growing_same is = record {
+      stand = fewer;
+      done = rows_same l (drop (length places) (items e)) (below ∷ reverse rows) (is (drop (length places) (items e)) here_written) others;
+    }
 
 -- ===== the rows of an alternative
 -- behind the last item there is none

@@ -1,11 +1,13 @@
 // A table of which items match from which places, filled from the last item to the first.
-ghost use Rattle.std.specs.Prelude.{◌≡◌, true, false, [], IfOk};
+ghost use Rattle.std.specs.Prelude.{◌≡◌, true, false, List, [], IfOk};
+ghost use Rattle.grammar.specs.Grammar as g;
 ghost use Rattle.grammar.specs.Grammar.{Legal};
 ghost use Rattle.table.specs.Cells.{Row};
+ghost use Rattle.table.specs.Places.{WrittenAt, FirstIs, Stand};
 
 use crate::row::row;
 use grammar::expression::Expression;
-use grammar::items::Item;
+use grammar::items::{Item, Items};
 use std::alloc::{AllocError, Global};
 
 // Which of the items of an expression match from which places of a line.
@@ -13,6 +15,28 @@ use std::alloc::{AllocError, Global};
 pub struct Table {
     // the row n is that of the items from the nth on; the last one is that of no item
     pub(crate) rows: Vec<Vec<bool>>,
+}
+
+// Where the items of the expression stand. A place takes less memory than its item, which is read again there.
+fn places(heap: Global, expression: &Expression<'_>) -> Result<Vec<usize>, AllocError>
+    ensures { IfOk result (λ v. Stand expression.now.text.now v.items) }
+{
+    let mut places = Vec::new(heap);
+    let mut left = expression.items();
+    while let Some((_, others)) = left.split_first() {
+        places.push(expression.text.len() - left.rest.len())?;
+        left = others;
+    }
+    Ok(places)
+}
+
+// The item that stands at the place, if one does.
+fn item_at<'a>(expression: &Expression<'a>, place: usize) -> Option<Item<'a>>
+    ensures { (is : List g.Item) → WrittenAt expression.now.text.now place is → FirstIs is result }
+{
+    let rest = expression.text.get(place..)?;
+    let (item, _) = Items { rest }.split_first()?;
+    Some(item)
 }
 
 // The row of no items, which match from everywhere.
@@ -44,13 +68,15 @@ impl Table {
     pub fn fill(heap: Global, expression: &Expression<'_>, line: &str) -> Result<Table, AllocError>
         ensures { IfOk result (λ t. Filled expression.now.text.now line.now t) }
     {
-        let items: Vec<Item<'_>> = expression.items().collect(heap)?;
+        let mut places = places(heap, expression)?;
         let mut rows = Vec::new(heap);
         let mut below = last_row(heap, line)?;
-        for item in items.iter().rev() {
-            let here = row(heap, item, line, &below)?;
-            rows.push(below)?;
-            below = here;
+        while let Some(place) = places.pop() {
+            if let Some(item) = item_at(expression, place) {
+                let here = row(heap, &item, line, &below)?;
+                rows.push(below)?;
+                below = here;
+            }
         }
         rows.push(below)?;
         rows.reverse();
