@@ -69,7 +69,7 @@ impl Table {
         ensures { IfOk result (λ t. Filled expression.now.text.now line.now t) }
     {
         let mut places = places(heap, expression)?;
-        let mut rows = Vec::new(heap);
+        let mut rows = Vec::with_capacity(heap, places.len() + 1)?;
         let mut below = last_row(heap, line)?;
         while let Some(place) = places.pop() {
             if let Some(item) = read_at(expression, place) {
