@@ -78,9 +78,6 @@ behind_ends rest bytes y is w v =
     subst (Ends rest) w.written (item_ends rest y (g.written is) (subst (Ends rest) (sym v.written) (ends_all rest)))
 
 -- ===== the place of the rest
-pub rest_within : (rest bytes : List ℕ) → Ends rest bytes → length rest ≤ length bytes
-rest_within rest bytes h = omega (arith, ap length h.1, length-append h.0 rest)
-
 rest_there : (rest bytes : List ℕ) → Ends rest bytes → drop (length bytes - length rest) bytes ≡ rest
 rest_there rest bytes h =
     let long : length bytes - length rest ≡ length h.0 = omega (arith, ap length h.1, length-append h.0 rest) in

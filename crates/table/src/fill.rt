@@ -31,7 +31,7 @@ fn places(heap: Global, expression: &Expression<'_>) -> Result<Vec<usize>, Alloc
 }
 
 // The item that stands at the place, if one does.
-fn item_at<'a>(expression: &Expression<'a>, place: usize) -> Option<Item<'a>>
+fn read_at<'a>(expression: &Expression<'a>, place: usize) -> Option<Item<'a>>
     ensures { (is : List g.Item) → WrittenAt expression.now.text.now place is → FirstIs is result }
 {
     let rest = expression.text.get(place..)?;
@@ -69,10 +69,10 @@ impl Table {
         ensures { IfOk result (λ t. Filled expression.now.text.now line.now t) }
     {
         let mut places = places(heap, expression)?;
-        let mut rows = Vec::new(heap);
+        let mut rows = Vec::with_capacity(heap, places.len() + 1)?;
         let mut below = last_row(heap, line)?;
         while let Some(place) = places.pop() {
-            if let Some(item) = item_at(expression, place) {
+            if let Some(item) = read_at(expression, place) {
                 let here = row(heap, &item, line, &below)?;
                 rows.push(below)?;
                 below = here;

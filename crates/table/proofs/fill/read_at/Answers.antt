@@ -3,7 +3,7 @@ use Rattle.std.proofs.lemmas.List.{take_rest}
 use Rattle.std.proofs.lemmas.Str.{IsCharBoundary-end}
 use Rattle.grammar.specs.Items.{Written}
 use Rattle.table.proofs.Places.{readable, none_read, first_read}
-use Rattle.table.proofs.fill.item_at.Goals as goal
+use Rattle.table.proofs.fill.read_at.Goals as goal
 
 pub returns-in_err-rest : goal.returns-in_err-rest
 returns-in_err-rest c is w =
