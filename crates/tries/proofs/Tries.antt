@@ -21,7 +21,7 @@ use Rattle.ways.proofs.Reading.{none_written, seen_as, seen_times_as}
 use Rattle.ways.specs.declared.cursor.Cursor.{Cursor}
 use Rattle.ways.specs.declared.start.Start.{Start}
 use Rattle.ways.specs.Starts.{Begins}
-use Rattle.tries.specs.Tried.{Ends, EndsAt, Tried, TriedTimes, TriedMost}
+use Rattle.tries.specs.Tried.{Ends, EndsAt, Tried, TriedTimes, TriedMost, TriedBracket}
 
 -- ===== as many steps as there can be: no more than what is left of the line
 module _ (l : List ℕ) (x : g.Piece) (k : ℕ → Option Way) where
@@ -197,42 +197,62 @@ module _ {items : Items} {at : Cursor} {ms : List ℕ} where
     not_here (inr (inr h)) = by_first None ms (λ y is seen w. (rw (seen_as item i.Never y h seen).1, refl))
 
     -- a bracket
-    module _ {mid ns : List ℕ} where
-      noted : (r : Option ℕ) → Tried others at ms r mid → Noted at.place ms r mid ns → (item ≡ i.Open) ⊎ (item ≡ i.Close)
-          → Tried items at ms r ns
-      noted r tried push (inl same) = by_first r ns (λ y is h w.
-          rw (seen_as item i.Open y same h)
-          (on_bracket_noted at.place ms g.opens (leading is) (run at.line.now (leading is) at.place) r mid ns refl (tried.ends is w) push))
-      noted r tried push (inr same) = by_first r ns (λ y is h w.
-          rw (seen_as item i.Close y same h)
-          (on_bracket_noted at.place ms g.closes (leading is) (run at.line.now (leading is) at.place) r mid ns refl (tried.ends is w) push))
+    pub by_bracket : {r : Option ℕ} {ns : List ℕ} → TriedBracket others at ms r ns → (item ≡ i.Open) ⊎ (item ≡ i.Close)
+        → Tried items at ms r ns
+    by_bracket {r} {ns} tried (inl same) = by_first r ns (λ y is h w. rw (seen_as item i.Open y same h) (tried.ends g.opens is refl w))
+    by_bracket {r} {ns} tried (inr same) = by_first r ns (λ y is h w. rw (seen_as item i.Close y same h) (tried.ends g.closes is refl w))
 
-      pub bracket_noted : {T E : Type 0} {r : Option ℕ} {ks : List ℕ} (pushed : Result T E) → Tried others at ms r mid
-          → is_some r ≡ true
-          → OnOk pushed (ks ≡ mid ++ at.place ∷ []) → OnErr pushed (length mid ≡ 30) → ns ≡ ks
-          → (item ≡ i.Open) ⊎ (item ≡ i.Close)
-          → Tried items at ms r ns
-      bracket_noted {r = r} {ks = ks} pushed tried some ok full same which = noted r tried (push r pushed some ok full) which
-        where
-          push : {T E : Type 0} (r : Option ℕ) (pushed : Result T E) → is_some r ≡ true
-              → OnOk pushed (ks ≡ mid ++ at.place ∷ []) → OnErr pushed (length mid ≡ 30) → Noted at.place ms r mid ns
-          push None pushed some ok full = cc
-          push (Some e) (Ok x) some ok full = λ fits. same ∙ ok
-          push (Some e) (Err x) some ok full = λ fits. absurd (omega arith)
+-- ===== the brackets
+bracket_runs : (l : List ℕ) (x : g.Item) (js : List g.Item) (p : ℕ) → is_bracket x ≡ true → run l (x ∷ js) p ≡ from p (run l js p)
+bracket_runs l (g.takes x t) js p h = cc
+bracket_runs l g.start js p h = cc
+bracket_runs l g.end js p h = cc
+bracket_runs l (g.never d) js p h = cc
+bracket_runs l g.opens js p h = refl
+bracket_runs l g.closes js p h = refl
+bracket_runs l g.bar js p h = cc
 
-      pub bracket_left : {r : Option ℕ} → Tried others at ms r mid → is_some r ≡ false → ns ≡ mid
-          → (item ≡ i.Open) ⊎ (item ≡ i.Close)
-          → Tried items at ms r ns
-      bracket_left {r} tried none same which = noted r tried (push r none) which
-        where
-          push : (r : Option ℕ) → is_some r ≡ false → Noted at.place ms r mid ns
-          push None none = same
-          push (Some e) none = cc
+module _ {items : Items} {at : Cursor} {ms mid ns : List ℕ} where
+  noted : (r : Option ℕ) → Tried items at ms r mid → Noted at.place ms r mid ns → TriedBracket items at ms r ns
+  noted r tried push = record {
+    ends = λ x is bracket w.
+        rw (bracket_runs at.line.now x (leading is) at.place bracket)
+        (on_bracket_noted at.place ms x (leading is) (run at.line.now (leading is) at.place) r mid ns bracket (tried.ends is w) push);
+  }
+
+  pub bracket_noted : {T E : Type 0} {r : Option ℕ} {ks : List ℕ} (pushed : Result T E) → Tried items at ms r mid
+      → is_some r ≡ true
+      → OnOk pushed (ks ≡ mid ++ at.place ∷ []) → OnErr pushed (length mid ≡ 30) → ns ≡ ks
+      → TriedBracket items at ms r ns
+  bracket_noted {r = r} {ks = ks} pushed tried some ok full same = noted r tried (push r pushed some ok full)
+    where
+      push : {T E : Type 0} (r : Option ℕ) (pushed : Result T E) → is_some r ≡ true
+          → OnOk pushed (ks ≡ mid ++ at.place ∷ []) → OnErr pushed (length mid ≡ 30) → Noted at.place ms r mid ns
+      push None pushed some ok full = cc
+      push (Some e) (Ok x) some ok full = λ fits. same ∙ ok
+      push (Some e) (Err x) some ok full = λ fits. absurd (omega arith)
+
+  pub bracket_left : {r : Option ℕ} → Tried items at ms r mid → is_some r ≡ false → ns ≡ mid → TriedBracket items at ms r ns
+  bracket_left {r} tried none same = noted r tried (push r none)
+    where
+      push : (r : Option ℕ) → is_some r ≡ false → Noted at.place ms r mid ns
+      push None none = same
+      push (Some e) none = cc
 
 -- ===== the repeats
 step_is : (t : Piece) (at : Cursor) (o : Option Cursor) (x : g.Piece) → Steps t at.line.now at.place o → IsPiece t x
     → step at.line.now x at.place ≡ place_of o
 step_is t at o x steps piece = sym (steps x piece)
+
+-- the piece does not take what is there, and is not left out
+pub none_taken : {t : Piece} {times : Times} {items : Items} {at : Cursor} {ms : List ℕ} → (times ≡ u.Once) ⊎ (times ≡ u.Some) → Steps t at.line.now at.place None
+    → TriedTimes t times items at ms None ms
+none_taken {t} {times} {at = at} (inl is) steps = record {
+  ends = λ x v js piece read w. rw (seen_times_as times u.Once v is read, step_is t at None x steps piece) (refl, refl);
+}
+none_taken {t} {times} {at = at} (inr is) steps = record {
+  ends = λ x v js piece read w. rw (seen_times_as times u.Some v is read, step_is t at None x steps piece) (refl, refl);
+}
 
 module _ {t : Piece} {items : Items} {at : Cursor} {ms : List ℕ} {r : Option ℕ} {ns : List ℕ} where
   -- after a step to q
@@ -337,4 +357,4 @@ pub refilled : (xs ys : List ℕ) → length ys ≡ length xs → take (length x
 refilled xs ys e = grind (arith, common_steps)
 
 -- what the answers of the repeats come from
-pub ruleset repeats = (IfOk-weaker, once_on, some_on, many_on, maybe_first, maybe_again, maybe_none, most_first, most_again, most_none)
+pub ruleset repeats = (IfOk-weaker, most_first, most_again, most_none)

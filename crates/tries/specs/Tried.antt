@@ -1,5 +1,5 @@
 -- What the tries of an alternative come to. Assumes nothing.
-use Rattle.std.specs.Prelude.{◌≡◌, ℕ, ◌+◌, ◌≤◌, Bool, false, List, ◌∷◌, ◌++◌, length, reverse, Some, None, Option, Result, Ok, Err, ◌==◌}
+use Rattle.std.specs.Prelude.{◌≡◌, ℕ, ◌+◌, ◌≤◌, Bool, true, false, List, ◌∷◌, ◌++◌, length, reverse, Some, None, Option, Result, Ok, Err, ◌==◌}
 use Rattle.grammar.specs.declared.items.Piece.{Piece}
 use Rattle.grammar.specs.declared.items.Times.{Times}
 use Rattle.grammar.specs.declared.items.Item.{Item}
@@ -10,7 +10,7 @@ use Rattle.grammar.specs.Items.{IsPiece, times_of, Written}
 use Rattle.ways.specs.declared.cursor.Cursor.{Cursor}
 use Rattle.ways.specs.Match.{Way, at_end, run}
 use Rattle.ways.specs.Meaning.{leading, end_of}
-use Rattle.ways.specs.Matched.{brackets}
+use Rattle.ways.specs.Matched.{is_bracket, brackets}
 
 -- an item that takes nothing holds at p
 abbrev pub holds_at : Item → List ℕ → ℕ → Bool
@@ -52,3 +52,7 @@ pub record TriedTimes (t : Piece) (times : Times) (items : Items) (from : Cursor
 pub record TriedMost (t : Piece) (items : Items) (from : Cursor) (ms : List ℕ) (r : Option ℕ) (ns : List ℕ) : Type 0 where
   pub ends : (x : g.Piece) (is : List g.Item) → IsPiece t x → Written items.rest.now is
       → EndsAt from (g.takes x g.many ∷ leading is) ms r ns
+
+-- a bracket, and the items behind it
+pub record TriedBracket (items : Items) (from : Cursor) (ms : List ℕ) (r : Option ℕ) (ns : List ℕ) : Type 0 where
+  pub ends : (x : g.Item) (is : List g.Item) → is_bracket x ≡ true → Written items.rest.now is → EndsAt from (x ∷ leading is) ms r ns

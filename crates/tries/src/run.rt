@@ -7,11 +7,12 @@ ghost use Rattle.ways.specs.Match.{run as run_spec};
 ghost use Rattle.ways.specs.Meaning.{leading};
 ghost use Rattle.ways.specs.Matched.{Matches, Keeps};
 ghost use Rattle.ways.specs.Starts.{Begins};
-ghost use Rattle.tries.specs.Tried.{Tried, TriedTimes, TriedMost, NotedBehind, holds_at};
+ghost use Rattle.tries.specs.Tried.{Tried, TriedBracket, TriedMost, NotedBehind, holds_at};
 
+use crate::forward::{Choice, Reached};
 use crate::limit::Limit;
 use arrayvec::ArrayVec;
-use grammar::items::{Item, Items, Piece, Times};
+use grammar::items::{Item, Items, Piece};
 use ways::cursor::Cursor;
 use ways::find::{FindWay, Matched};
 use ways::line_end::at_end;
@@ -53,7 +54,7 @@ impl<L: Limit> Tries<L> {
 
     // Where the items end, up to the next bar, from the place on, if they match. They may begin at any item of an alternative,
     // inside brackets too. The brackets that were noted before stay noted.
-    #[cycle(run_run_most_run_times)]
+    #[cycle(run_run_bracket_run_most)]
     pub fn run(
         &mut self,
         items: &Items<'_>,
@@ -64,58 +65,51 @@ impl<L: Limit> Tries<L> {
         ensures noted { NotedBehind self.old.brackets.items result self.new.brackets.items }
         ensures depth { self.new.depth ≡ self.old.depth }
     {
-        let Some((item, items)) = items.split_first() else {
-            return Ok(Some(from.place));
+        let mut reached = Reached {
+            left: *items,
+            here: *from,
+            choice: Choice::Ended(None),
         };
-        let depth = self.limit.deeper(depth)?;
-        match item {
-            Item::Take(piece, times) => self.run_times(&piece, times, &items, from, depth),
-            Item::Bar => Ok(Some(from.place)),
-            Item::Open | Item::Close => {
-                let end = self.run(&items, from, depth)?;
-                if end.is_some() {
-                    // an expression has no more brackets than there is room for
-                    let _ = self.brackets.try_push(from.place);
-                }
-                Ok(end)
+        let mut depth = depth;
+        'choices: loop {
+            depth = reached.forward(&mut self.limit, depth)?;
+            let end = match &reached.choice {
+                Choice::Ended(end) => return Ok(*end),
+                Choice::Maybe(next) => self.run(&reached.left, next, depth),
+                Choice::Many(piece) => self.run_most(piece, &reached.left, &reached.here, depth),
+                Choice::Bracket => self.run_bracket(&reached.left, &reached.here, depth),
+            }?;
+            // only a piece that may be left out leaves another try
+            if end.is_some() || !matches!(reached.choice, Choice::Maybe(_)) {
+                return Ok(end);
             }
-            Item::Start if from.is_at_start() => self.run(&items, from, depth),
-            Item::End if from.is_at_end() => self.run(&items, from, depth),
-            Item::Start | Item::End | Item::Never => Ok(None),
         }
     }
 
-    // The piece, as often as `times` says, and the items behind it.
-    #[tactic(auto, using(crate::proofs::Tries::repeats))]
-    #[cycle(run_run_most_run_times)]
-    fn run_times(
+    // A bracket, and the items behind it.
+    #[inline(never)]
+    #[cycle(run_run_bracket_run_most)]
+    fn run_bracket(
         &mut self,
-        piece: &Piece<'_>,
-        times: Times,
         items: &Items<'_>,
         from: &Cursor<'_>,
         depth: L::Depth,
     ) -> Result<Option<usize>, L::Stop>
-        ensures tried { IfOk result (λ r. TriedTimes piece.now times items.now from.now self.old.brackets.items r self.new.brackets.items) }
+        ensures tried { IfOk result (λ r. TriedBracket items.now from.now self.old.brackets.items r self.new.brackets.items) }
         ensures noted { NotedBehind self.old.brackets.items result self.new.brackets.items }
         ensures depth { self.new.depth ≡ self.old.depth }
     {
-        match (times, from.step(piece)) {
-            (Times::Once, Some(next)) => self.run(items, &next, depth),
-            (Times::Maybe, Some(next)) => match self.run(items, &next, depth)? {
-                Some(end) => Ok(Some(end)),
-                None => self.run(items, from, depth),
-            },
-            (Times::Many, _) => self.run_most(piece, items, from, depth),
-            (Times::Some, Some(next)) => self.run_most(piece, items, &next, depth),
-            (Times::Maybe, None) => self.run(items, from, depth),
-            (Times::Once | Times::Some, None) => Ok(None),
+        let end = self.run(items, from, depth)?;
+        if end.is_some() {
+            // an expression has no more brackets than there is room for
+            let _ = self.brackets.try_push(from.place);
         }
+        Ok(end)
     }
 
     // The piece as often as can be, and the items behind it.
     #[tactic(auto, using(crate::proofs::Tries::repeats))]
-    #[cycle(run_run_most_run_times)]
+    #[cycle(run_run_bracket_run_most)]
     fn run_most(
         &mut self,
         piece: &Piece<'_>,
