@@ -1,6 +1,5 @@
 -- The way through the items that leave no choice. Assumes nothing.
-use Rattle.std.proofs.Common.{◌≡◌, ℕ, ◌<◌, ◌≤◌, true, false, eqb, ◌⊎◌, List, length, Some, None, Option, refl, sym, subst, Ok, ◌∙◌, arith}
-use Rattle.std.specs.Prelude.{is_some}
+use Rattle.std.proofs.Common.{◌≡◌, ℕ, ◌<◌, ◌≤◌, true, false, eqb, ◌⊎◌, List, length, Some, None, Option, refl, ◌∙◌, arith}
 use Rattle.grammar.specs.declared.items.Piece.{Piece}
 use Rattle.grammar.specs.declared.items.Times.{Times}
 use Rattle.grammar.specs.declared.items.Times.TheVariants as u
@@ -11,7 +10,7 @@ use Rattle.grammar.specs.Items.{Reads}
 use Rattle.ways.specs.declared.cursor.Cursor.{Cursor}
 use Rattle.ways.specs.Match.{at_end}
 use Rattle.ways.specs.Pieces.{Steps}
-use Rattle.tries.specs.Tried.{Tried, TriedMost, TriedBracket, NotedBehind}
+use Rattle.tries.specs.Tried.{Tried, TriedMost, TriedBracket}
 use Rattle.tries.specs.Choices.{Passed, PassedMaybe}
 use Rattle.tries.proofs.Tries.{ends, takes, bars, starts, ends_line, not_here, by_bracket, once_on, some_on, many_on, maybe_first, maybe_again, maybe_none, none_taken}
 
@@ -94,22 +93,3 @@ pub record Chosen (ms : List ℕ) (items : Items) (from : Cursor) (left : Items)
   pub passed : Passed ms items from left here
   pub line : here.line.now ≡ from.line.now
   pub within : length left.rest.now ≤ length items.rest.now
-
--- the try from next on found nothing, and noted nothing
-pub left_out : (S : Type 0) {ms now mid : List ℕ} {items left others : Items} {from at here next : Cursor} (first : Option ℕ)
-    → Chosen ms items from left at → PassedMaybe left at others here next → here.line.now ≡ at.line.now
-    → length others.rest.now < length left.rest.now
-    → now ≡ ms → Tried others next now first mid → NotedBehind {S = S} now (Ok first) mid → is_some first ≡ false
-    → Chosen ms items from others here × (mid ≡ ms)
-left_out S {ms = ms} {now} {mid} {others = others} {here = here} {next = next} None p maybe line fewer same tried noted none =
-    let all = noted ∙ same in (
-      record {
-        passed = λ r ns again.
-            p.passed r ns
-            (maybe.again ms mid r ns (subst (λ ks. Tried others next ks None mid) same tried) (subst (λ ks. Tried others here ks r ns) (sym all) again));
-        line = line ∙ p.line;
-        within = let w = p.within in omega arith;
-      },
-      all,
-    )
-left_out S (Some e) p maybe line fewer same tried noted none = cc
